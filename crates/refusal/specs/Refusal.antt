@@ -1,0 +1,40 @@
+-- Document 01's table of refusals: each case's number, and the value that it carries (0 where it carries none).
+use Prim.Native.Nat.{ℕ}
+use Rattle.refusal.specs.declared.Refusal.{Refusal}
+use Rattle.refusal.specs.declared.Refusal.the-variants.{State, Room, LogShort, LogEdition, LogHeader, LogCount, LogSize, LogEntry, ImageSize, ImageHeader, ImageField, BeyondEnd, Place, MarkNumber, MarkUnset, MarksFull}
+
+abbrev pub numberOf : Refusal → ℕ
+numberOf State = 1
+numberOf Room = 2
+numberOf LogShort = 3
+numberOf LogEdition = 4
+numberOf LogHeader = 5
+numberOf LogCount = 6
+numberOf LogSize = 7
+numberOf (LogEntry index) = 8
+numberOf ImageSize = 9
+numberOf ImageHeader = 10
+numberOf (ImageField offset) = 11
+numberOf BeyondEnd = 12
+numberOf Place = 13
+numberOf MarkNumber = 14
+numberOf MarkUnset = 15
+numberOf MarksFull = 16
+
+abbrev pub carriedOf : Refusal → ℕ
+carriedOf State = 0
+carriedOf Room = 0
+carriedOf LogShort = 0
+carriedOf LogEdition = 0
+carriedOf LogHeader = 0
+carriedOf LogCount = 0
+carriedOf LogSize = 0
+carriedOf (LogEntry index) = index
+carriedOf ImageSize = 0
+carriedOf ImageHeader = 0
+carriedOf (ImageField offset) = offset
+carriedOf BeyondEnd = 0
+carriedOf Place = 0
+carriedOf MarkNumber = 0
+carriedOf MarkUnset = 0
+carriedOf MarksFull = 0

@@ -1,0 +1,21 @@
+-- How a test is taken apart: the tests that `&&` joins, and the two ways of a `cond`.
+use mathlib.Core.Path.{_≡_, refl}
+use mathlib.Core.Bool.{Bool, true, false, cond, _&&_, and-eq-true-iff}
+use mathlib.Core.List.{List, [], _∷_}
+
+abbrev every : Bool → List Bool → Bool
+every a [] = a
+every a (b ∷ bs) = every (a && b) bs
+
+abbrev All : List Bool → Type 0
+All [] = Unit
+All (b ∷ bs) = (b ≡ true) × All bs
+
+pub each : {P : Type 0} (a : Bool) (bs : List Bool) → every a bs ≡ true → (All (a ∷ bs) → P) → P
+each a [] h p = p (h, tt)
+each a (b ∷ bs) h p =
+    each (a && b) bs h (λ k. let l : (a ≡ true) × (b ≡ true) = and-eq-true-iff a b .0 (k .0) in p (l .0, (l .1, k .1)))
+
+pub ways : {A : Type 0} (P : A → Type 0) (b : Bool) {x y : A} → (b ≡ true → P x) → (b ≡ false → P y) → P (cond b x y)
+ways P true t f = t refl
+ways P false t f = f refl

@@ -1,0 +1,60 @@
+use borrow.Author.Needs.{needs}
+use Rattle.voice.specs.ChannelEnum.{kindWrite}
+use Rattle.voice.proofs.channel_enum.kind_set_u8.Statement.{statement}
+use Rattle.voice.proofs.channel_enum.kind_set_u8.Tie as tie
+
+enum-known-kind : tie.Need-enum-known-kind
+enum-known-kind c = search needs
+
+wave-bank-requires : tie.Need-wave-bank-requires
+wave-bank-requires c κs = search needs
+
+wave-position-requires : tie.Need-wave-position-requires
+wave-position-requires c κs = search needs
+
+enum-known-kind-2 : tie.Need-enum-known-kind-2
+enum-known-kind-2 c = search needs
+
+wave-bank-requires-2 : tie.Need-wave-bank-requires-2
+wave-bank-requires-2 c κs = search needs
+
+wave-position-requires-2 : tie.Need-wave-position-requires-2
+wave-position-requires-2 c κs = search needs
+
+set-u8-requires : tie.Need-set-u8-requires
+set-u8-requires c κs = search needs
+
+enum-known-kind-3 : tie.Need-enum-known-kind-3
+enum-known-kind-3 c = search needs
+
+noise-set-u8-requires : tie.Need-noise-set-u8-requires
+noise-set-u8-requires c κs = search needs
+
+returns : tie.Need-returns
+unfolding kindWrite
+returns c = rw (c .before .before .before .kind .given .1, c .before .wave-bank .ensures, c .wave-position .ensures)
+
+returns-2 : tie.Need-returns-2
+unfolding kindWrite
+returns-2 c = rw (c .before .before .before .before .kind2 .given .1, c .before .before .wave-bank2 .ensures, c .before .wave-position2 .ensures, c .set-u8 .ensures)
+
+returns-3 : tie.Need-returns-3
+unfolding kindWrite
+returns-3 c = rw (c .before .before .kind3 .given .1) (c .noise-set-u8 .ensures)
+
+pub kind-set-u8-spec : {M : Type 1} → statement M
+kind-set-u8-spec =
+    tie.close
+    (tie.spec
+    enum-known-kind
+    wave-bank-requires
+    wave-position-requires
+    enum-known-kind-2
+    wave-bank-requires-2
+    wave-position-requires-2
+    set-u8-requires
+    enum-known-kind-3
+    noise-set-u8-requires
+    returns
+    returns-2
+    returns-3)

@@ -1,0 +1,152 @@
+-- A voice: a common record and its kind, in document 01's words.
+use Prim.Native.Nat.{ℕ, _+_, _*_, _/_, _%_, _^_}
+use mathlib.Core.Bool.{Bool, true, false, cond, _&&_, _||_, Bool·beq}
+use mathlib.Core.List.{List, [], _∷_}
+use lib.Dec.{eqb, leb}
+use lib.ListN.{getD}
+use lib.IntN.{ℤ}
+use Rattle.voice.specs.Bits.{bits}
+use Rattle.voice.specs.Channel.{withLive, withPitch, withEnvelope, channelWrite, liveStep, pitchStep, envelopeStep, side, channelInRange}
+use Rattle.voice.specs.Constants.{waveTick, noiseTick}
+use Rattle.voice.specs.SweepModulate.{sweepWrite, sweepStep, sweepInRange}
+use Rattle.voice.specs.Waveform.{sampleAt}
+use Rattle.voice.specs.declared.channel.Channel.{Channel}
+use Rattle.voice.specs.declared.channel.Pitched.{Pitched}
+use Rattle.voice.specs.declared.sweep_modulate.Stepped.{Stepped}
+use Rattle.voice.specs.declared.channel_enum.Kind.{Kind}
+use Rattle.voice.specs.declared.channel_enum.Kind.the-variants.{Wave, Swept, Noise}
+use Rattle.voice.specs.declared.channel_enum.Voice.{Voice}
+
+abbrev pub voiceOf : Channel → Kind → Voice
+voiceOf c k = record { channel = c; kind = k }
+
+-- Register writes.
+
+-- "Noise: bits 4 to 6 choose tap 14, 10, 13, 4, 8, 6, 9, 11."
+abbrev pub taps : List ℕ
+taps = 14 ∷ 10 ∷ 13 ∷ 4 ∷ 8 ∷ 6 ∷ 9 ∷ 11 ∷ []
+
+abbrev pub tapOf : ℕ → ℕ
+tapOf b = getD taps (bits 4 3 b) 0
+
+-- "0x00: wave position 0"
+unfoldable pub positionWrite : ℕ → ℕ → ℕ
+positionWrite offset position = cond (eqb offset 0x00) 0 position
+
+-- "0x18: wave channels, bank = byte mod 8."
+unfoldable pub bankWrite : ℕ → ℕ → ℕ → ℕ
+bankWrite offset b bank = cond (eqb offset 0x18) (b % 8) bank
+
+-- "0x00: noise shift 0 and output off"
+unfoldable pub noiseWrite : ℕ → ℕ → ℕ → ℕ → Bool → Kind
+noiseWrite offset b shift tap output =
+    cond (eqb offset 0x00) (Noise 0 tap false) (cond (eqb offset 0x14) (Noise shift (tapOf b) output) (Noise shift tap output))
+
+unfoldable pub kindWrite : ℕ → ℕ → Kind → Kind
+kindWrite offset b (Wave bank position) = Wave (bankWrite offset b bank) (positionWrite offset position)
+kindWrite offset b (Swept bank position sweep) =
+    Swept (bankWrite offset b bank) (positionWrite offset position) (sweepWrite offset b sweep)
+kindWrite offset b (Noise shift tap output) = noiseWrite offset b shift tap output
+
+unfoldable pub voiceWrite : ℕ → ℕ → Voice → Voice
+voiceWrite offset b v = voiceOf (channelWrite offset b (v .channel)) (kindWrite offset b (v .kind))
+
+-- One cycle.
+
+-- step 1
+unfoldable pub autoStop : Voice → Voice
+autoStop v = voiceOf (withLive (v .channel) (liveStep (v .channel .live))) (v .kind)
+
+-- "at 4 (noise 40)"
+unfoldable pub tickOf : Kind → ℕ
+tickOf (Wave bank position) = waveTick
+tickOf (Swept bank position sweep) = waveTick
+tickOf (Noise shift tap output) = noiseTick
+
+-- "Channel 5 uses its current frequency."
+unfoldable pub frequencyOf : ℕ → Kind → ℕ
+frequencyOf written (Wave bank position) = written
+frequencyOf written (Swept bank position sweep) = sweep .current
+frequencyOf written (Noise shift tap output) = written
+
+-- "new bit = not(bit 7 xor tap bit)"
+abbrev pub newBit : ℕ → ℕ → Bool
+newBit shift tap = eqb (shift / 2 ^ 7 % 2) (shift / 2 ^ tap % 2)
+
+-- "shift = (2 × shift mod 32768) + new bit; output = new bit"
+unfoldable pub clocked : ℕ → ℕ → Kind
+clocked shift tap = Noise (2 * shift % 32768 + cond (newBit shift tap) 1 0) tap (newBit shift tap)
+
+-- "Wave: position + 1 mod 32."
+unfoldable pub nextSample : Kind → Kind
+nextSample (Wave bank position) = Wave bank ((position + 1) % 32)
+nextSample (Swept bank position sweep) = Swept bank ((position + 1) % 32) sweep
+nextSample (Noise shift tap output) = clocked shift tap
+
+-- step 2
+unfoldable pub sampled : Voice → Pitched → Voice
+sampled v p = voiceOf (withPitch (v .channel) (p .pitch)) (cond (p .due) (nextSample (v .kind)) (v .kind))
+
+unfoldable pub frequencyStep : Voice → Voice
+frequencyStep v =
+    sampled v (pitchStep (tickOf (v .kind)) (frequencyOf (v .channel .pitch .frequency) (v .kind)) (v .channel .pitch))
+
+-- step 3
+unfoldable pub envelopeOn : Voice → Voice
+envelopeOn v = voiceOf (withEnvelope (v .channel) (envelopeStep (v .channel .envelope))) (v .kind)
+
+-- step 4, at channel 5 alone
+unfoldable pub sweepOf : List ℤ → Channel → Kind → Voice
+sweepOf entries c (Wave bank position) = voiceOf c (Wave bank position)
+sweepOf entries c (Swept bank position sweep) =
+    let t : Stepped = sweepStep entries c sweep in
+    voiceOf (t .channel) (Swept bank position (t .sweep))
+sweepOf entries c (Noise shift tap output) = voiceOf c (Noise shift tap output)
+
+abbrev pub sweepOn : List ℤ → Voice → Voice
+sweepOn entries v = sweepOf entries (v .channel) (v .kind)
+
+-- The frame.
+
+-- "The sample is 0 for banks 5 to 7; noise gives 63 or 0."
+unfoldable pub sampleOf : List ℕ → Kind → ℕ
+sampleOf waves (Wave bank position) = sampleAt waves bank position
+sampleOf waves (Swept bank position sweep) = sampleAt waves bank position
+sampleOf waves (Noise shift tap output) = cond output 63 0
+
+-- "Add the playing voices": what a voice adds to a side, of which `volume` is the volume
+unfoldable pub heard : List ℕ → ℕ → Voice → ℕ
+heard waves volume v = cond (v .channel .live .playing) (side (v .channel .envelope .level) volume (sampleOf waves (v .kind))) 0
+
+-- Range rules: "Channels 0 to 3 are wave, 4 wave with sweep, 5 noise".
+
+-- "tap one of the eight"
+abbrev pub isTap : ℕ → Bool
+isTap t = eqb t 14 || eqb t 10 || eqb t 13 || eqb t 4 || eqb t 8 || eqb t 6 || eqb t 9 || eqb t 11
+
+-- "bank 0..7; positions 0..31"
+unfoldable pub waveKind : Kind → Bool
+waveKind (Wave bank position) = leb bank 7 && leb position 31
+waveKind (Swept bank position sweep) = false
+waveKind (Noise shift tap output) = false
+
+unfoldable pub sweptKind : Kind → Bool
+sweptKind (Wave bank position) = false
+sweptKind (Swept bank position sweep) = leb bank 7 && leb position 31 && sweepInRange sweep
+sweptKind (Noise shift tap output) = false
+
+-- "shift 0..32,767; tap one of the eight; noise output = lowest bit of shift"
+unfoldable pub noiseKind : Kind → Bool
+noiseKind (Wave bank position) = false
+noiseKind (Swept bank position sweep) = false
+noiseKind (Noise shift tap output) = leb shift 32767 && isTap tap && Bool·beq output (eqb (shift % 2) 1)
+
+-- "tick 0..3 or 0..39"
+unfoldable pub waveInRange : Voice → Bool
+waveInRange v = channelInRange 3 (v .channel) && waveKind (v .kind)
+
+unfoldable pub sweptInRange : Voice → Bool
+sweptInRange v = channelInRange 3 (v .channel) && sweptKind (v .kind)
+
+unfoldable pub noiseInRange : Voice → Bool
+noiseInRange v = channelInRange 39 (v .channel) && noiseKind (v .kind)

@@ -1,0 +1,371 @@
+// A voice: a common record and its kind. The Rust's `ChannelType`.
+ghost use mathlib.Core.Path.{_≡_};
+ghost use Rattle.voice.specs.ChannelEnum.{isTap, tapOf, positionWrite, bankWrite, noiseWrite, kindWrite, voiceWrite, tickOf, frequencyOf, clocked, nextSample, autoStop, frequencyStep, envelopeOn, sweepOn, sampleOf, waveInRange, sweptInRange, noiseInRange};
+use crate::bits;
+use crate::channel;
+use crate::channel::Channel;
+use crate::constants::NOISE_CHANNEL_BASE_FREQUENCY_CYCLE_COUNT;
+use crate::constants::WAVE_CHANNEL_BASE_FREQUENCY_CYCLE_COUNT;
+use crate::sweep_modulate;
+use crate::sweep_modulate::SweepModulate;
+use crate::waveform;
+
+pub enum Kind {
+    Wave {
+        bank: u8,
+        position: u8,
+    },
+    Swept {
+        bank: u8,
+        position: u8,
+        sweep: SweepModulate,
+    },
+    Noise {
+        shift: u16,
+        tap: u8,
+        output: bool,
+    },
+}
+
+pub struct Voice {
+    pub channel: Channel,
+    pub kind: Kind,
+}
+
+const TAPS: [u8; 8] = [14, 10, 13, 4, 8, 6, 9, 11];
+
+fn tap_bit(value: u8) -> u8
+    ensures { λ r. ⌜ r ≡ tapOf value ⌝ }
+{
+    let code = bits::field(value, 4, 3) as usize;
+    TAPS[code]
+}
+
+fn wave_position(position: u8, offset: u32) -> u8
+    ensures { λ r. ⌜ r ≡ positionWrite offset position ⌝ }
+{
+    if offset == 0 { 0 } else { position }
+}
+
+fn wave_bank(bank: u8, offset: u32, value: u8) -> u8
+    ensures { λ r. ⌜ r ≡ bankWrite offset value bank ⌝ }
+{
+    if offset == 0x18 {
+        bits::field(value, 0, 3)
+    } else {
+        bank
+    }
+}
+
+fn noise_set_u8(shift: u16, tap: u8, output: bool, offset: u32, value: u8) -> Kind
+    ensures { λ r. ⌜ r ≡ noiseWrite offset value shift tap output ⌝ }
+{
+    match offset {
+        0x00 => Kind::Noise {
+            shift: 0,
+            tap: tap,
+            output: false,
+        },
+        0x14 => Kind::Noise {
+            shift: shift,
+            tap: tap_bit(value),
+            output: output,
+        },
+        _ => Kind::Noise {
+            shift: shift,
+            tap: tap,
+            output: output,
+        },
+    }
+}
+
+fn kind_set_u8(kind: Kind, offset: u32, value: u8) -> Kind
+    ensures { λ r. ⌜ r ≡ kindWrite offset value kind ⌝ }
+{
+    match kind {
+        Kind::Wave { bank, position } => Kind::Wave {
+            bank: wave_bank(bank, offset, value),
+            position: wave_position(position, offset),
+        },
+        Kind::Swept {
+            bank,
+            position,
+            sweep,
+        } => Kind::Swept {
+            bank: wave_bank(bank, offset, value),
+            position: wave_position(position, offset),
+            sweep: sweep_modulate::set_u8(sweep, offset, value),
+        },
+        Kind::Noise { shift, tap, output } => noise_set_u8(shift, tap, output, offset, value),
+    }
+}
+
+pub fn set_u8(v: Voice, offset: u32, value: u8) -> Voice
+    ensures { λ r. ⌜ r ≡ voiceWrite offset value v ⌝ }
+{
+    let c = v.channel;
+    let k = v.kind;
+    Voice {
+        channel: channel::set_u8(c, offset, value),
+        kind: kind_set_u8(k, offset, value),
+    }
+}
+
+fn cycles_per_frequency_tick(kind: Kind) -> u32
+    ensures { λ r. ⌜ r ≡ tickOf kind ⌝ }
+{
+    match kind {
+        Kind::Wave {
+            bank: _,
+            position: _,
+        } => WAVE_CHANNEL_BASE_FREQUENCY_CYCLE_COUNT,
+        Kind::Swept {
+            bank: _,
+            position: _,
+            sweep: _,
+        } => WAVE_CHANNEL_BASE_FREQUENCY_CYCLE_COUNT,
+        Kind::Noise {
+            shift: _,
+            tap: _,
+            output: _,
+        } => NOISE_CHANNEL_BASE_FREQUENCY_CYCLE_COUNT,
+    }
+}
+
+fn frequency(kind: Kind, written: u16) -> u16
+    ensures { λ r. ⌜ r ≡ frequencyOf written kind ⌝ }
+{
+    match kind {
+        Kind::Wave {
+            bank: _,
+            position: _,
+        } => written,
+        Kind::Swept {
+            bank: _,
+            position: _,
+            sweep,
+        } => sweep.current,
+        Kind::Noise {
+            shift: _,
+            tap: _,
+            output: _,
+        } => written,
+    }
+}
+
+fn increment_noise(shift: u16, tap: u8) -> Kind
+    ensures { λ r. ⌜ r ≡ clocked shift tap ⌝ }
+{
+    let source = bits::shifted(shift, 7) % 2;
+    let tapped = bits::shifted(shift, tap) % 2;
+    let moved = (shift % 16384) * 2;
+    if source == tapped {
+        Kind::Noise {
+            shift: moved + 1,
+            tap: tap,
+            output: true,
+        }
+    } else {
+        Kind::Noise {
+            shift: moved,
+            tap: tap,
+            output: false,
+        }
+    }
+}
+
+fn increment_sample(kind: Kind) -> Kind
+    ensures { λ r. ⌜ r ≡ nextSample kind ⌝ }
+{
+    match kind {
+        Kind::Wave { bank, position } => Kind::Wave {
+            bank: bank,
+            position: (position % 32 + 1) % 32,
+        },
+        Kind::Swept {
+            bank,
+            position,
+            sweep,
+        } => Kind::Swept {
+            bank: bank,
+            position: (position % 32 + 1) % 32,
+            sweep: sweep,
+        },
+        Kind::Noise {
+            shift,
+            tap,
+            output: _,
+        } => increment_noise(shift, tap),
+    }
+}
+
+pub fn step_auto_deactivate(v: Voice) -> Voice
+    ensures { λ r. ⌜ r ≡ autoStop v ⌝ }
+{
+    let mut c = v.channel;
+    c.live = channel::live_step(c.live);
+    let mut w = v;
+    w.channel = c;
+    w
+}
+
+pub fn step_sampling_frequency(v: Voice) -> Voice
+    ensures { λ r. ⌜ r ≡ frequencyStep v ⌝ }
+{
+    let mut c = v.channel;
+    let kind = v.kind;
+    let pitch = c.pitch;
+    let p = channel::pitch_step(
+        pitch,
+        frequency(kind, pitch.frequency),
+        cycles_per_frequency_tick(kind),
+    );
+    let next = p.pitch;
+    c.pitch = next;
+    if p.due {
+        return Voice {
+            channel: c,
+            kind: increment_sample(kind),
+        };
+    }
+    let mut w = v;
+    w.channel = c;
+    w
+}
+
+pub fn step_envelope(v: Voice) -> Voice
+    ensures { λ r. ⌜ r ≡ envelopeOn v ⌝ }
+{
+    let mut c = v.channel;
+    c.envelope = channel::envelope_step(c.envelope);
+    let mut w = v;
+    w.channel = c;
+    w
+}
+
+pub fn step_sweep_modulate(v: Voice, modulation_data: &[i8; 32]) -> Voice
+    ensures { λ r. ⌜ r ≡ sweepOn (now («modulation_data» .entry)) v ⌝ }
+{
+    let kind = v.kind;
+    match kind {
+        Kind::Wave {
+            bank: _,
+            position: _,
+        } => v,
+        Kind::Swept {
+            bank,
+            position,
+            sweep,
+        } => {
+            let c = v.channel;
+            let t = sweep_modulate::sweep_step(sweep, c, modulation_data);
+            let s = t.sweep;
+            let d = t.channel;
+            Voice {
+                channel: d,
+                kind: Kind::Swept {
+                    bank: bank,
+                    position: position,
+                    sweep: s,
+                },
+            }
+        }
+        Kind::Noise {
+            shift: _,
+            tap: _,
+            output: _,
+        } => v,
+    }
+}
+
+pub fn output(kind: Kind, waves: &[u8; 160]) -> u8
+    ensures { λ r. ⌜ r ≡ sampleOf (now (waves .entry)) kind ⌝ }
+{
+    match kind {
+        Kind::Wave { bank, position } => waveform::get_indexed(waves, bank, position),
+        Kind::Swept {
+            bank,
+            position,
+            sweep: _,
+        } => waveform::get_indexed(waves, bank, position),
+        Kind::Noise {
+            shift: _,
+            tap: _,
+            output,
+        } => if output { 63 } else { 0 },
+    }
+}
+
+fn is_tap(t: u8) -> bool
+    ensures { λ r. ⌜ r ≡ isTap t ⌝ }
+{
+    (t == 14) | (t == 10) | (t == 13) | (t == 4) | (t == 8) | (t == 6) | (t == 9) | (t == 11)
+}
+
+pub fn wave_in_range(v: Voice) -> bool
+    ensures { λ r. ⌜ r ≡ waveInRange v ⌝ }
+{
+    let c = v.channel;
+    let k = v.kind;
+    match k {
+        Kind::Wave { bank, position } => channel::in_range(c, 3) & ((bank <= 7) & (position <= 31)),
+        Kind::Swept {
+            bank: _,
+            position: _,
+            sweep: _,
+        } => false,
+        Kind::Noise {
+            shift: _,
+            tap: _,
+            output: _,
+        } => false,
+    }
+}
+
+pub fn swept_in_range(v: Voice) -> bool
+    ensures { λ r. ⌜ r ≡ sweptInRange v ⌝ }
+{
+    let c = v.channel;
+    let k = v.kind;
+    match k {
+        Kind::Wave {
+            bank: _,
+            position: _,
+        } => false,
+        Kind::Swept {
+            bank,
+            position,
+            sweep,
+        } => {
+            channel::in_range(c, 3)
+                & ((bank <= 7) & (position <= 31) & sweep_modulate::in_range(sweep))
+        }
+        Kind::Noise {
+            shift: _,
+            tap: _,
+            output: _,
+        } => false,
+    }
+}
+
+pub fn noise_in_range(v: Voice) -> bool
+    ensures { λ r. ⌜ r ≡ noiseInRange v ⌝ }
+{
+    let c = v.channel;
+    let k = v.kind;
+    match k {
+        Kind::Wave {
+            bank: _,
+            position: _,
+        } => false,
+        Kind::Swept {
+            bank: _,
+            position: _,
+            sweep: _,
+        } => false,
+        Kind::Noise { shift, tap, output } => {
+            channel::in_range(c, 39)
+                & ((shift <= 32_767) & is_tap(tap) & (output == (shift % 2 == 1)))
+        }
+    }
+}
