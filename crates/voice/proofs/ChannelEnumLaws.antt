@@ -1,22 +1,28 @@
--- The cases of the definitions of specs/ChannelEnum.antt, one law each, over plain variables.
-use Prim.Native.Nat.{ℕ, _+_, _*_, _/_, _%_, _^_, _<_}
-use mathlib.Core.Path.{_≡_, refl, sym, _∙_}
-use mathlib.Core.Bool.{true, false}
+-- The cases of the definitions of specs/ChannelEnum.antt, one law each, over plain variables; then, that a voice in range stays in range.
+use Prim.Native.Nat.{ℕ, zero, suc, _+_, _*_, _/_, _%_, _^_, _<_, _≤_}
+use mathlib.Core.Path.{_≡_, refl, ap, _∙_}
+use mathlib.Core.Bool.{Bool, true, false, cond, _&&_, Bool·beq, false≢true, and-eq-true-iff}
+use mathlib.Core.List.{List, [], _∷_}
 use native.Mathlib.Omega.{arith}
 use native.Mathlib.Nat.{add-zero}
-use borrow.Author.Tests.{eq-eqb, ne-eqb}
-use Rattle.voice.specs.Channel.{withPitch, pitchStep}
-use Rattle.voice.specs.ChannelEnum.{voiceOf, tickOf, frequencyOf, clocked, nextSample, sampled, frequencyStep}
+use borrow.Author.Tests.{eq-eqb, ne-eqb, le-leb, leb-true}
+use lib.Dec.{eqb, leb, ltb}
+use lib.IntN.{ℤ}
+use lib.ListN.{length, getD}
+use Rattle.voice.proofs.ChannelLaws.{side-le, channel-live-keeps, channel-pitch-keeps, channel-envelope-keeps, channel-stop-keeps, channel-write-keeps, level-le, left-le, right-le}
+use Rattle.voice.proofs.SweepModulateLaws.{sweep-write-keeps, sweep-step-keeps, sweep-step-channel}
+use Rattle.voice.proofs.Cases.{both, each, ways}
+use Rattle.voice.specs.Bits.{bits}
+use Rattle.voice.specs.Channel.{withPitch, pitchStep, side, channelInRange}
+use Rattle.voice.specs.ChannelEnum.{voiceOf, taps, bankWrite, positionWrite, noiseWrite, kindWrite, tickOf, frequencyOf, newBit, clocked, nextSample, sampled, frequencyStep, sweepOf, sweepOn, isTap, waveKind, sweptKind, noiseKind, sampleOf, heard, autoStop, envelopeOn, voiceWrite, waveInRange, sweptInRange, noiseInRange}
+use Rattle.voice.specs.SweepModulate.{sweepInRange, stopped}
+use Rattle.voice.specs.Waveform.{sampleAt}
+use Rattle.voice.specs.declared.channel.Channel.{Channel}
 use Rattle.voice.specs.declared.channel.Pitched.{Pitched}
 use Rattle.voice.specs.declared.channel_enum.Kind.{Kind}
 use Rattle.voice.specs.declared.channel_enum.Kind.the-variants.{Wave, Swept, Noise}
 use Rattle.voice.specs.declared.channel_enum.Voice.{Voice}
-
-pub tick-pos : (k : Kind) → 0 < tickOf k
-unfolding tickOf
-tick-pos (Wave bank position) = omega arith
-tick-pos (Swept bank position sweep) = omega arith
-tick-pos (Noise shift tap output) = omega arith
+use Rattle.voice.specs.declared.sweep_modulate.SweepModulate.{SweepModulate}
 
 -- the noise's shift register
 
@@ -49,3 +55,252 @@ module _
     pub sample-stays : p .due ≡ false → voiceOf (withPitch (v .channel) (p .pitch)) (v .kind) ≡ frequencyStep v
     unfolding frequencyStep sampled
     sample-stays d = rw (← t, ← f, ← e, d)
+
+-- A kind in range stays in range.
+
+pub data WaveOk : Kind → Type 0 where
+  wave : {bank position : ℕ} → bank ≤ 7 → position ≤ 31 → WaveOk (Wave bank position)
+
+pub data SweptOk : Kind → Type 0 where
+  swept : {bank position : ℕ} {sweep : SweepModulate} → bank ≤ 7 → position ≤ 31 → sweepInRange sweep ≡ true → SweptOk (Swept bank position sweep)
+
+pub data NoiseOk : Kind → Type 0 where
+  noise :
+      {shift tap : ℕ} {output : Bool}
+      → shift ≤ 32767
+      → isTap tap ≡ true
+      → Bool·beq output (eqb (shift % 2) 1) ≡ true
+      → NoiseOk (Noise shift tap output)
+
+pub wave-facts : (k : Kind) → waveKind k ≡ true → WaveOk k
+unfolding waveKind
+wave-facts (Wave bank position) h =
+    each (leb bank 7) (leb position 31 ∷ []) h (λ t. wave (leb-true _ _ (t .0)) (leb-true _ _ (t .1 .0)))
+wave-facts (Swept bank position sweep) h = absurd (false≢true h)
+wave-facts (Noise shift tap output) h = absurd (false≢true h)
+
+pub wave-test : {k : Kind} → WaveOk k → waveKind k ≡ true
+unfolding waveKind
+wave-test (wave n p) = rw (le-leb _ _ n, le-leb _ _ p)
+
+pub swept-facts : (k : Kind) → sweptKind k ≡ true → SweptOk k
+unfolding sweptKind
+swept-facts (Wave bank position) h = absurd (false≢true h)
+swept-facts (Swept bank position sweep) h =
+    each (leb bank 7) (leb position 31 ∷ sweepInRange sweep ∷ []) h
+    (λ t. swept (leb-true _ _ (t .0)) (leb-true _ _ (t .1 .0)) (t .1 .1 .0))
+swept-facts (Noise shift tap output) h = absurd (false≢true h)
+
+pub swept-test : {k : Kind} → SweptOk k → sweptKind k ≡ true
+unfolding sweptKind
+swept-test (swept n p s) = rw (le-leb _ _ n, le-leb _ _ p, s)
+
+pub noise-facts : (k : Kind) → noiseKind k ≡ true → NoiseOk k
+unfolding noiseKind
+noise-facts (Wave bank position) h = absurd (false≢true h)
+noise-facts (Swept bank position sweep) h = absurd (false≢true h)
+noise-facts (Noise shift tap output) h =
+    each (leb shift 32767) (isTap tap ∷ Bool·beq output (eqb (shift % 2) 1) ∷ []) h
+    (λ t. noise (leb-true _ _ (t .0)) (t .1 .0) (t .1 .1 .0))
+
+pub noise-test : {k : Kind} → NoiseOk k → noiseKind k ≡ true
+unfolding noiseKind
+noise-test (noise n t o) = rw (le-leb _ _ n, t, o)
+
+abbrev areTaps : List ℕ → Bool
+areTaps [] = true
+areTaps (t ∷ ts) = isTap t && areTaps ts
+
+tap-in : (ts : List ℕ) (n : ℕ) → areTaps ts ≡ true → n < length ts → isTap (getD ts n 0) ≡ true
+tap-in [] n a h = absurd (omega arith)
+tap-in (t ∷ ts) zero a h = and-eq-true-iff (isTap t) (areTaps ts) .0 a .0
+tap-in (t ∷ ts) (suc n) a h = tap-in ts n (and-eq-true-iff (isTap t) (areTaps ts) .0 a .1) (omega arith)
+
+module _ (o b : ℕ) where
+  bank-ok : {n : ℕ} → n ≤ 7 → bankWrite o b n ≤ 7
+  unfolding bankWrite
+  bank-ok h = ways (λ n. n ≤ 7) (eqb o 0x18) (λ _. omega arith) (λ _. h)
+
+  position-ok : {n : ℕ} → n ≤ 31 → positionWrite o n ≤ 31
+  unfolding positionWrite
+  position-ok h = ways (λ n. n ≤ 31) (eqb o 0x00) (λ _. omega arith) (λ _. h)
+
+  wave-write : {k : Kind} → WaveOk k → WaveOk (kindWrite o b k)
+  unfolding kindWrite
+  wave-write (wave n p) = wave (bank-ok n) (position-ok p)
+
+  swept-write : {k : Kind} → b < 256 → SweptOk k → SweptOk (kindWrite o b k)
+  unfolding kindWrite
+  swept-write l (swept n p s) = swept (bank-ok n) (position-ok p) (sweep-write-keeps _ s o b l)
+
+  noise-write : {k : Kind} → NoiseOk k → NoiseOk (kindWrite o b k)
+  unfolding kindWrite noiseWrite
+  noise-write (noise n t q) =
+      ways NoiseOk (eqb o 0x00) (λ _. noise (omega arith) t refl) (λ _.
+      ways NoiseOk (eqb o 0x14) (λ _. noise n (tap-in taps (bits 4 3 b) refl (omega arith)) q) (λ _. noise n t q))
+
+turn : (n : ℕ) → (n + 1) % 32 ≤ 31
+turn n = omega arith
+
+wave-next : {k : Kind} → WaveOk k → WaveOk (nextSample k)
+unfolding nextSample
+wave-next (wave n p) = wave n (turn _)
+
+swept-next : {k : Kind} → SweptOk k → SweptOk (nextSample k)
+unfolding nextSample
+swept-next (swept n p s) = swept n (turn _) s
+
+swept-sweep : {k : Kind} (entries : List ℤ) (c : Channel) → SweptOk k → SweptOk (sweepOf entries c k .kind)
+unfolding sweepOf
+swept-sweep entries c (swept n p s) = swept n p (sweep-step-keeps _ s entries c)
+
+new-bit : (shift tap : ℕ) (b : Bool) → isTap tap ≡ true → NoiseOk (Noise (2 * shift % 32768 + cond b 1 0) tap b)
+new-bit shift tap true t =
+    noise {shift = 2 * shift % 32768 + 1} (omega arith) t (ap (Bool·beq true) (eq-eqb ((2 * shift % 32768 + 1) % 2) 1 (omega arith)))
+new-bit shift tap false t =
+    noise {shift = 2 * shift % 32768 + 0} (omega arith) t (ap (Bool·beq false) (ne-eqb ((2 * shift % 32768 + 0) % 2) 1 (λ e. omega arith)))
+
+noise-next : {k : Kind} → NoiseOk k → NoiseOk (nextSample k)
+unfolding nextSample clocked
+noise-next (noise {shift} {tap} n t q) = new-bit shift tap (newBit shift tap) t
+
+-- the same over the tests
+
+module _ (k : Kind) where
+  module _ (h : waveKind k ≡ true) where
+    pub wave-write-keeps : (o b : ℕ) → waveKind (kindWrite o b k) ≡ true
+    wave-write-keeps o b = wave-test (wave-write o b (wave-facts k h))
+
+    pub wave-next-keeps : waveKind (nextSample k) ≡ true
+    wave-next-keeps = wave-test (wave-next (wave-facts k h))
+
+  module _ (h : sweptKind k ≡ true) where
+    pub swept-write-keeps : (o b : ℕ) → b < 256 → sweptKind (kindWrite o b k) ≡ true
+    swept-write-keeps o b l = swept-test (swept-write o b l (swept-facts k h))
+
+    pub swept-next-keeps : sweptKind (nextSample k) ≡ true
+    swept-next-keeps = swept-test (swept-next (swept-facts k h))
+
+    pub swept-sweep-keeps : (entries : List ℤ) (c : Channel) → sweptKind (sweepOf entries c k .kind) ≡ true
+    swept-sweep-keeps entries c = swept-test (swept-sweep entries c (swept-facts k h))
+
+  module _ (h : noiseKind k ≡ true) where
+    pub noise-write-keeps : (o b : ℕ) → noiseKind (kindWrite o b k) ≡ true
+    noise-write-keeps o b = noise-test (noise-write o b (noise-facts k h))
+
+    pub noise-next-keeps : noiseKind (nextSample k) ≡ true
+    noise-next-keeps = noise-test (noise-next (noise-facts k h))
+
+-- what a voice adds to a side
+
+module _ (waves : List ℕ) (volume : ℕ) (v : Voice) where
+  pub heard-silent : v .channel .live .playing ≡ false → 0 ≡ heard waves volume v
+  unfolding heard
+  heard-silent p = rw p
+
+  pub heard-playing : v .channel .live .playing ≡ true → {s x : ℕ} → x ≡ side (v .channel .envelope .level) volume s → s ≡ sampleOf waves (v .kind) → x ≡ heard waves volume v
+  unfolding heard
+  heard-playing p e q = rw (e, q, p)
+
+-- and the most that it adds, of waves whose samples are at most 63
+
+module _ (waves : List ℕ) (w : (i : ℕ) → getD waves i 0 ≤ 63) where
+  at-le : (bank position : ℕ) → sampleAt waves bank position ≤ 63
+  unfolding sampleAt
+  at-le bank position = ways (λ n. n ≤ 63) (ltb 4 bank) (λ _. omega arith) (λ _. w (bank * 32 + position))
+
+  pub sample-le : (k : Kind) → sampleOf waves k ≤ 63
+  unfolding sampleOf
+  sample-le (Wave bank position) = at-le bank position
+  sample-le (Swept bank position sweep) = at-le bank position
+  sample-le (Noise shift tap output) = ways (λ n. n ≤ 63) output (λ _. omega arith) (λ _. omega arith)
+
+  pub heard-le : (volume : ℕ) → volume ≤ 15 → (v : Voice) → v .channel .envelope .level ≤ 15 → heard waves volume v ≤ 913
+  unfolding heard
+  heard-le volume p v l =
+      ways (λ n. n ≤ 913) (v .channel .live .playing) (λ _. side-le _ volume _ l p (sample-le (v .kind))) (λ _. omega arith)
+
+-- A voice in range stays in range, and is within the bounds that `heard-le` wants: said once, of a test of kinds and a largest tick.
+
+pub record Kept (R : Voice → Bool) : Type 0 where
+  pub auto-stop : (v : Voice) → R v ≡ true → R (autoStop v) ≡ true
+  pub frequency-step : (v : Voice) → R v ≡ true → R (frequencyStep v) ≡ true
+  pub envelope-on : (v : Voice) → R v ≡ true → R (envelopeOn v) ≡ true
+  pub stop : (v : Voice) → R v ≡ true → R (voiceOf (stopped (v .channel)) (v .kind)) ≡ true
+  pub write : (v : Voice) → R v ≡ true → (o b : ℕ) → b < 256 → R (voiceWrite o b v) ≡ true
+  pub level : (v : Voice) → R v ≡ true → v .channel .envelope .level ≤ 15
+  pub left : (v : Voice) → R v ≡ true → v .channel .left ≤ 15
+  pub right : (v : Voice) → R v ≡ true → v .channel .right ≤ 15
+
+module _ (most : ℕ) (K : Kind → Bool) where
+  module _ (v : Voice) (h : (channelInRange most (v .channel) && K (v .kind)) ≡ true) where
+    channel-of : channelInRange most (v .channel) ≡ true
+    channel-of = and-eq-true-iff (channelInRange most (v .channel)) (K (v .kind)) .0 h .0
+
+    kind-of : K (v .kind) ≡ true
+    kind-of = and-eq-true-iff (channelInRange most (v .channel)) (K (v .kind)) .0 h .1
+
+  module _
+      (tick : (k : Kind) → K k ≡ true → tickOf k ≤ most + 1)
+      (next : (k : Kind) → K k ≡ true → K (nextSample k) ≡ true)
+      (write : (k : Kind) → K k ≡ true → (o b : ℕ) → b < 256 → K (kindWrite o b k) ≡ true)
+    where
+      sampled-in :
+          (v : Voice)
+          → K (v .kind) ≡ true
+          → (p : Pitched)
+          → channelInRange most (withPitch (v .channel) (p .pitch)) ≡ true
+          → (channelInRange most (sampled v p .channel) && K (sampled v p .kind)) ≡ true
+      unfolding sampled
+      sampled-in v k p q = both q (ways (λ n. K n ≡ true) (p .due) (λ _. next _ k) (λ _. k))
+
+      kept : Kept (λ v. channelInRange most (v .channel) && K (v .kind))
+      unfolding autoStop frequencyStep envelopeOn voiceWrite
+      kept =
+          record {
+            auto-stop = λ v h. both (channel-live-keeps most _ (channel-of v h)) (kind-of v h);
+            frequency-step = λ v h. sampled-in v (kind-of v h) _ (channel-pitch-keeps most _ (channel-of v h) _ _ (tick _ (kind-of v h)));
+            envelope-on = λ v h. both (channel-envelope-keeps most _ (channel-of v h)) (kind-of v h);
+            stop = λ v h. both (channel-stop-keeps most _ (channel-of v h)) (kind-of v h);
+            write = λ v h o b l. both (channel-write-keeps most _ (channel-of v h) o b l) (write _ (kind-of v h) o b l);
+            level = λ v h. level-le most _ (channel-of v h);
+            left = λ v h. left-le most _ (channel-of v h);
+            right = λ v h. right-le most _ (channel-of v h);
+          }
+
+wave-tick : {k : Kind} → WaveOk k → tickOf k ≤ 4
+unfolding tickOf
+wave-tick (wave n p) = omega arith
+
+swept-tick : {k : Kind} → SweptOk k → tickOf k ≤ 4
+unfolding tickOf
+swept-tick (swept n p s) = omega arith
+
+noise-tick : {k : Kind} → NoiseOk k → tickOf k ≤ 40
+unfolding tickOf
+noise-tick (noise n t q) = omega arith
+
+pub wave-kept : Kept waveInRange
+unfolding waveInRange
+wave-kept = kept 3 waveKind (λ k h. wave-tick (wave-facts k h)) wave-next-keeps (λ k h o b l. wave-write-keeps k h o b)
+
+pub swept-kept : Kept sweptInRange
+unfolding sweptInRange
+swept-kept = kept 3 sweptKind (λ k h. swept-tick (swept-facts k h)) swept-next-keeps swept-write-keeps
+
+pub noise-kept : Kept noiseInRange
+unfolding noiseInRange
+noise-kept = kept 39 noiseKind (λ k h. noise-tick (noise-facts k h)) noise-next-keeps (λ k h o b l. noise-write-keeps k h o b)
+
+-- step 4, at channel 5 alone
+
+swept-channel : {k : Kind} (entries : List ℤ) (c : Channel) → SweptOk k → channelInRange 3 (sweepOf entries c k .channel) ≡ channelInRange 3 c
+unfolding sweepOf
+swept-channel entries c (swept n p s) = sweep-step-channel _ s entries c 3
+
+pub swept-on-keeps : (entries : List ℤ) (v : Voice) → sweptInRange v ≡ true → sweptInRange (sweepOn entries v) ≡ true
+unfolding sweptInRange
+swept-on-keeps entries v h =
+    let k : sweptKind (v .kind) ≡ true = kind-of 3 sweptKind v h in
+    both (swept-channel entries (v .channel) (swept-facts (v .kind) k) ∙ channel-of 3 sweptKind v h)
+    (swept-sweep-keeps (v .kind) k entries (v .channel))

@@ -1,4 +1,4 @@
-pub mod Tests
+pub mod Cases
 pub mod BitsLaws
 pub mod ChannelLaws
 pub mod SweepModulateLaws

@@ -1,20 +1,21 @@
 -- The cases of the definitions of specs/SweepModulate.antt, one law each, over plain variables.
 use Prim.Native.Nat.{ℕ, _+_, _-_, _/_, _%_, _^_, _<_, _≤_}
 use mathlib.Core.Path.{_≡_, refl, ap, _∙_}
-use mathlib.Core.Bool.{Bool, true, false, cond, not, _&&_}
+use mathlib.Core.Bool.{true, false, not, _&&_}
 use mathlib.Core.List.{List, [], _∷_}
 use native.Mathlib.Omega.{arith}
 use native.Mathlib.Nat.{mod-add-mod, mod-eq-of-lt}
 use borrow.Author.Tests.{lt-leb, le-leb, lt-ltb, le-ltb, leb-true, leb-false, ltb-false}
 use borrow.Author.Needs.{needs}
 use lib.Dec.{eqb, leb, ltb}
-use lib.IntN.{ℤ, pos, negsuc}
+use lib.IntN.{ℤ, pos}
 use lib.ListN.{getD}
 use lib.Signed.{mag}
 use mir.Syntax.{w8}
-use mir.Val.{SFits, toZ, ofZ}
+use mir.Val.{toZ, ofZ}
 use mir.Facts.{toZ-ofZ}
-use Rattle.voice.proofs.Tests.{each, ways}
+use Rattle.voice.proofs.BitsLaws.{lifted-lt}
+use Rattle.voice.proofs.Cases.{each, ways}
 use Rattle.voice.specs.Bits.{lifted}
 use Rattle.voice.specs.Channel.{channelInRange, liveInRange}
 use Rattle.voice.specs.SweepModulate.{sweepAt, withFrequencies, withIndex, restart, rewrite, writeMode, writeSweep, sweepWrite, modulated, stopped, swept, sweepDue, sweepTicked, sweepPeriod, sweepStep, sweepInRange}
@@ -24,17 +25,12 @@ use Rattle.voice.specs.declared.sweep_modulate.SweepModulate.{SweepModul
 
 -- An entry is handed to `bits::lifted` through its bits.
 
-small : (e : ℤ) → mag e < 128 → lifted e < 2176
-unfolding lifted
-small (pos e) f = omega arith
-small (negsuc e) f = omega arith
-
 module _ (e : ℤ) {up : ℕ} (f : mag e < 128) (q : up ≡ lifted (toZ w8 (ofZ w8 e))) where
   pub lifted-is : up ≡ lifted e
   lifted-is = q ∙ ap lifted (toZ-ofZ (record { sfits = f }))
 
   pub lifted-small : up < 2176
-  lifted-small = rw lifted-is (small e f)
+  lifted-small = rw lifted-is (lifted-lt e (record { sfits = f }))
 
 -- modulation
 
@@ -155,18 +151,44 @@ pub record StepOk (c : Channel) (r : Stepped) : Type 0 where
   pub sweep : SweepOk (r .sweep)
   pub channel : (most : ℕ) → channelInRange most (r .channel) ≡ channelInRange most c
 
-period-most : (s : SweepModulate) → sweepPeriod s ≤ 153609
-period-most s = ways (λ n. n ≤ 153609) (s .slow) (λ _. omega arith) (λ _. omega arith)
+module _ (c : Channel) where
+  kept : {s : SweepModulate} → SweepOk s → StepOk c (record { sweep = s; channel = c })
+  kept k = record { sweep = k; channel = λ most. refl }
 
-module _ (entries : List ℤ) (c : Channel) (s : SweepModulate) (k : SweepOk s) where
-  kept : {t : SweepModulate} → SweepOk t → StepOk c (record { sweep = t; channel = c })
-  kept l = record { sweep = l; channel = λ most. refl }
-
-  swept-ok : StepOk c (swept c s)
+  swept-ok : (s : SweepModulate) → SweepOk s → StepOk c (swept c s)
   unfolding swept channelInRange liveInRange
-  swept-ok =
-      ways (StepOk c) (s .up)
-      (λ _. ways (StepOk c) (ltb 2047 (s .current + s .current / 2 ^ s .shift))
-      (λ _. record { sweep = k; channel = λ most. refl })
-      (λ h. let f : s .current + s .current / 2 ^ s .shift ≤ 2047 = ltb-false _ _ h in kept (search needs)))
+  swept-ok s k =
+      ways (StepOk c) (s .up) (λ _.
+      ways (StepOk c) (ltb 2047 (s .current + s .current / 2 ^ s .shift)) (λ _. record { sweep = k; channel = λ most. refl }) (λ h.
+      let f : s .current + s .current / 2 ^ s .shift ≤ 2047 = ltb-false _ _ h in kept (search needs)))
       (λ _. kept (search needs))
+
+  module _ (entries : List ℤ) where
+    due-ok : (s : SweepModulate) → SweepOk s → StepOk c (sweepDue entries c s)
+    unfolding sweepDue
+    due-ok s k =
+        let l : SweepOk (withFrequencies s (s .last) (s .next) (s .next)) = search needs in
+        ways (StepOk c) (c .live .playing && s .enable && not (eqb (s .interval) 0)) (λ _.
+        ways (StepOk c) (s .modulate) (λ _. kept (modulated-ok _ l entries)) (λ _. swept-ok _ l))
+        (λ _. kept l)
+
+    pub step-ok : (s : SweepModulate) → SweepOk s → StepOk c (sweepStep entries c s)
+    unfolding sweepStep sweepTicked
+    step-ok s k =
+        ways (StepOk c) (leb (sweepPeriod s) (s .step + 1)) (λ _.
+        ways (StepOk c) (leb (s .interval) (s .counter + 1)) (λ _. due-ok (sweepAt s 0 0) (search needs)) (λ h.
+        let f : s .counter + 1 < s .interval = leb-false _ _ h in kept (search needs))) (λ h.
+        let f : s .step + 1 < sweepPeriod s = leb-false _ _ h in
+        let g : sweepPeriod s ≤ 153609 = ways (λ n. n ≤ 153609) (s .slow) (λ _. omega arith) (λ _. omega arith) in
+        kept (search needs))
+
+module _ (s : SweepModulate) (h : sweepInRange s ≡ true) where
+  pub sweep-write-keeps : (o b : ℕ) → b < 256 → sweepInRange (sweepWrite o b s) ≡ true
+  sweep-write-keeps o b l = sweep-test _ (write-ok s (sweep-facts s h) o b l)
+
+  module _ (entries : List ℤ) (c : Channel) where
+    pub sweep-step-keeps : sweepInRange (sweepStep entries c s .sweep) ≡ true
+    sweep-step-keeps = sweep-test _ (step-ok c entries s (sweep-facts s h) .sweep)
+
+    pub sweep-step-channel : (most : ℕ) → channelInRange most (sweepStep entries c s .channel) ≡ channelInRange most c
+    sweep-step-channel = step-ok c entries s (sweep-facts s h) .channel

@@ -1,6 +1,6 @@
 // A voice: a common record and its kind. The Rust's `ChannelType`.
 ghost use mathlib.Core.Path.{_≡_};
-ghost use Rattle.voice.specs.ChannelEnum.{isTap, tapOf, positionWrite, bankWrite, noiseWrite, kindWrite, voiceWrite, tickOf, frequencyOf, clocked, nextSample, autoStop, frequencyStep, envelopeOn, sweepOn, sampleOf, waveInRange, sweptInRange, noiseInRange};
+ghost use Rattle.voice.specs.ChannelEnum.{isTap, tapOf, positionWrite, bankWrite, noiseWrite, kindWrite, voiceWrite, tickOf, frequencyOf, clocked, nextSample, autoStop, frequencyStep, envelopeOn, sweepOn, sampleOf, heard, waveInRange, sweptInRange, noiseInRange};
 use crate::bits;
 use crate::channel;
 use crate::channel::Channel;
@@ -278,7 +278,7 @@ pub fn step_sweep_modulate(v: Voice, modulation_data: &[i8; 32]) -> Voice
     }
 }
 
-pub fn output(kind: Kind, waves: &[u8; 160]) -> u8
+fn output(kind: Kind, waves: &[u8; 160]) -> u8
     ensures { λ r. ⌜ r ≡ sampleOf (now (waves .entry)) kind ⌝ }
 {
     match kind {
@@ -294,6 +294,18 @@ pub fn output(kind: Kind, waves: &[u8; 160]) -> u8
             output,
         } => if output { 63 } else { 0 },
     }
+}
+
+// What a voice adds to the side of which `volume` is the volume.
+pub fn sample(v: Voice, volume: u8, waves: &[u8; 160]) -> u32
+    ensures { λ r. ⌜ r ≡ heard (now (waves .entry)) volume v ⌝ }
+{
+    let c = v.channel;
+    let kind = v.kind;
+    if !c.live.playing {
+        return 0;
+    }
+    channel::sample_side(c.envelope.level, volume, output(kind, waves))
 }
 
 fn is_tap(t: u8) -> bool

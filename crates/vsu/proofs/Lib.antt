@@ -1,0 +1,4 @@
+pub mod Upto
+pub mod CoreLaws
+pub mod RangeLaws
+pub mod RunLaws

@@ -1,0 +1,43 @@
+-- A loop that puts each element of a list through f, from the front: what it has after j turns.
+use Prim.Native.Nat.{ℕ, zero, suc, _+_, _≤_, _<_}
+use mathlib.Core.Path.{_≡_, refl, ap, _∙_}
+use mathlib.Core.List.{List, [], _∷_, map}
+use native.Mathlib.Numerals.{add-one}
+use native.Mathlib.Omega.{arith}
+use lib.ListN.{length, getD, set}
+
+module _ {A : Type 0} (f : A → A) where
+  -- the first j elements through f
+  unfoldable pub upTo : ℕ → List A → List A
+  upTo zero l = l
+  upTo (suc j) [] = []
+  upTo (suc j) (x ∷ l) = f x ∷ upTo j l
+
+  pub length-upTo : (j : ℕ) (l : List A) → length (upTo j l) ≡ length l
+  unfolding upTo
+  length-upTo zero l = refl
+  length-upTo (suc j) [] = refl
+  length-upTo (suc j) (x ∷ l) = ap suc (length-upTo j l)
+
+  pub upTo-none : (l : List A) → l ≡ upTo 0 l
+  unfolding upTo
+  upTo-none l = refl
+
+  step : (j : ℕ) (l : List A) (d : A) → j < length l → set (upTo j l) j (f (getD (upTo j l) j d)) ≡ upTo (suc j) l
+  unfolding upTo
+  step j [] d h = absurd (omega arith)
+  step zero (x ∷ l) d h = refl
+  step (suc j) (x ∷ l) d h = ap (λ (t : List A). f x ∷ t) (step j l d (omega arith))
+
+  pub upTo-more : {m : List A} (l : List A) {j : ℕ} (d : A) {y : A} → m ≡ upTo j l → j < length l → y ≡ f (getD m j d) → set m j y ≡ upTo (j + 1) l
+  upTo-more l {j} d e h q = rw (q, e, add-one j) (step j l d h)
+
+  all : (j : ℕ) (l : List A) → length l ≤ j → upTo j l ≡ map f l
+  unfolding upTo
+  all zero [] h = refl
+  all zero (x ∷ l) h = absurd (omega arith)
+  all (suc j) [] h = refl
+  all (suc j) (x ∷ l) h = ap (λ (t : List A). f x ∷ t) (all j l (omega arith))
+
+  pub upTo-all : {m : List A} (l : List A) {j : ℕ} → m ≡ upTo j l → length l ≤ j → m ≡ map f l
+  upTo-all l {j} e h = e ∙ all j l h
