@@ -2,3 +2,4 @@ pub mod Upto
 pub mod CoreLaws
 pub mod RangeLaws
 pub mod RunLaws
+pub mod Figures

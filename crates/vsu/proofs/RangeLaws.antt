@@ -1,5 +1,5 @@
 -- A state in range stays in range, and its voices' sums are small: what the runs need of the range rules, and the layers above.
-use Prim.Native.Nat.{ℕ, zero, suc, _+_, _*_, _%_, _<_, _≤_}
+use Prim.Native.Nat.{ℕ, zero, suc, _+_, _*_, _/_, _%_, _<_, _≤_}
 use mathlib.Core.Path.{_≡_, refl, sym, ap, subst, _∙_}
 use mathlib.Core.Bool.{Bool, true, false, cond, _&&_}
 use mathlib.Core.List.{List, [], _∷_, map}
@@ -20,7 +20,7 @@ use Rattle.voice.specs.Channel.{channelInRange, liveInRange, pitchInRange, enve
 use Rattle.voice.specs.SweepModulate.{sweepInRange}
 use Rattle.voice.specs.ChannelEnum.{autoStop, frequencyStep, envelopeOn, sweepOn, voiceWrite, waveInRange, sweptInRange, noiseInRange, waveKind, sweptKind, noiseKind}
 use Rattle.voice.specs.declared.channel_enum.Voice.{Voice}
-use Rattle.vsu.specs.Core.{Quiet, allAtMost, allBytes, anyPlays, cycle, decodeOf, frameDue, heardLeft, heardRight, inRange, plays, powerOn, run, shaped, stop, sumsOf, sweepFifth, total, voiceAt, voicesAfter, voicesInRange, write, writeTo}
+use Rattle.vsu.specs.Core.{Quiet, allAtMost, allBytes, anyPlays, cut, cycle, decodeOf, frameDue, frameOf, heardLeft, heardRight, inRange, plays, powerOn, run, shaped, stop, sumsOf, sweepFifth, total, voiceAt, voicesAfter, voicesInRange, write, writeTo}
 use Rattle.vsu.specs.declared.core.Register.{Register}
 use Rattle.vsu.specs.declared.core.Register.the-variants as registers
 use Rattle.vsu.specs.declared.core.Vsu.{Vsu}
@@ -316,3 +316,18 @@ module _ (u : Vsu) (k : InRange u) where
             (λ v r. heard-le (u .waves) s _ (swept-kept .right v r) v (swept-kept .level v r))
             (λ v r. heard-le (u .waves) s _ (noise-kept .right v r) v (noise-kept .level v r)));
       }
+
+-- "a frame's sides are multiples of 32 from 0 to 21,888"
+
+pub record Side (z : ℤ) : Type 0 where
+  pub number : ℕ
+  pub is : z ≡ pos (number * 32)
+  pub most : number * 32 ≤ 21888
+
+side-of : (sum : ℕ) → sum ≤ 5478 → Side (cut sum)
+side-of sum h = record { number = sum / 8; is = ap pos (omega arith); most = omega arith }
+
+pub frame-sides : (u : Vsu) → inRange u ≡ true → Side (frameOf (u .waves) (u .voices) .left) × Side (frameOf (u .waves) (u .voices) .right)
+unfolding frameOf
+frame-sides u h =
+    let q : Quiet (sumsOf (u .waves) (u .voices)) = quiet u (range-facts u h) in (side-of _ (q .left), side-of _ (q .right))

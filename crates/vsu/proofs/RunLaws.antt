@@ -13,7 +13,7 @@ use lib.ListN.{drop, set, length, getD, length-append, length-drop}
 use lib.Seq.{drop-cons}
 use Rattle.voice.proofs.Cases.{ways}
 use Rattle.voice.specs.declared.channel_enum.Voice.{Voice}
-use Rattle.vsu.proofs.RangeLaws.{range-facts, run-keeps, quiet}
+use Rattle.vsu.proofs.RangeLaws.{Side, range-facts, cycle-keeps, run-keeps, quiet, frame-sides}
 use Rattle.vsu.specs.Core.{Quiet, cycle, frameOf, frameDue, frames, framesDue, inRange, made, run, sides, sumsOf, voicesAfter}
 use Rattle.vsu.specs.declared.core.Frame.{Frame}
 use Rattle.vsu.specs.declared.core.Vsu.{Vsu}
@@ -162,3 +162,26 @@ module _ (u : Vsu) (h : inRange u ≡ true) where
       rw p
       (subst (λ (w : List ℕ). Quiet (sumsOf w (run n u .voices))) (run-waves n u)
       (quiet (run n u) (range-facts (run n u) (run-keeps n u h))))
+
+-- every frame of a run from a state in range
+
+abbrev pub Each : (Frame → Type 0) → List Frame → Type 0
+Each P [] = Unit
+Each P (f ∷ fs) = P f × Each P fs
+
+each-append : (P : Frame → Type 0) (fs gs : List Frame) → Each P fs → Each P gs → Each P (fs ++ gs)
+each-append P [] gs p q = q
+each-append P (f ∷ fs) gs p q = (p .0, each-append P fs gs (p .1) q)
+
+abbrev pub Sides : Frame → Type 0
+Sides f = Side (f .left) × Side (f .right)
+
+made-sides : (w : Vsu) → inRange w ≡ true → Each Sides (made w)
+unfolding made cycle
+made-sides w h = ways (Each Sides) (frameDue w) (λ _. (frame-sides (cycle w) (cycle-keeps w h), tt)) (λ _. tt)
+
+pub frames-sides : (n : ℕ) (u : Vsu) → inRange u ≡ true → Each Sides (frames n u)
+unfolding frames
+frames-sides zero u h = tt
+frames-sides (suc n) u h =
+    each-append Sides (frames n u) (made (run n u)) (frames-sides n u h) (made-sides (run n u) (run-keeps n u h))
