@@ -1,5 +1,7 @@
 -- Document 01's table of refusals: each case's number, and the value that it carries (0 where it carries none).
 use Prim.Native.Nat.{ℕ}
+use Rattle.refusal.specs.declared.Answer.{Answer}
+use Rattle.refusal.specs.declared.Answer.the-variants.{Accepted, Refused}
 use Rattle.refusal.specs.declared.Refusal.{Refusal}
 use Rattle.refusal.specs.declared.Refusal.the-variants.{State, Room, LogShort, LogEdition, LogHeader, LogCount, LogSize, LogEntry, ImageSize, ImageHeader, ImageField, BeyondEnd, Place, MarkNumber, MarkUnset, MarksFull}
 
@@ -38,3 +40,13 @@ carriedOf Place = 0
 carriedOf MarkNumber = 0
 carriedOf MarkUnset = 0
 carriedOf MarksFull = 0
+
+-- The same of an answer; an accepted call has number 0.
+
+abbrev pub answerNumber : Answer → ℕ
+answerNumber Accepted = 0
+answerNumber (Refused r) = numberOf r
+
+abbrev pub answerCarried : Answer → ℕ
+answerCarried Accepted = 0
+answerCarried (Refused r) = carriedOf r

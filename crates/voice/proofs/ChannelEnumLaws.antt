@@ -9,16 +9,16 @@ use borrow.Author.Tests.{eq-eqb, ne-eqb, le-leb, leb-true}
 use lib.Dec.{eqb, leb, ltb}
 use lib.IntN.{ℤ}
 use lib.ListN.{length, getD}
-use Rattle.voice.proofs.ChannelLaws.{side-le, channel-live-keeps, channel-pitch-keeps, channel-envelope-keeps, channel-stop-keeps, channel-write-keeps, level-le, left-le, right-le}
+use Rattle.common.proofs.ChannelLaws.{side-le, channel-live-keeps, channel-pitch-keeps, channel-envelope-keeps, channel-stop-keeps, channel-write-keeps, level-le, left-le, right-le}
 use Rattle.voice.proofs.SweepModulateLaws.{sweep-write-keeps, sweep-step-keeps, sweep-step-channel}
-use Rattle.voice.proofs.Cases.{both, each, ways}
-use Rattle.voice.specs.Bits.{bits}
-use Rattle.voice.specs.Channel.{withPitch, pitchStep, side, channelInRange}
-use Rattle.voice.specs.ChannelEnum.{voiceOf, taps, bankWrite, positionWrite, noiseWrite, kindWrite, tickOf, frequencyOf, newBit, clocked, nextSample, sampled, frequencyStep, sweepOf, sweepOn, isTap, waveKind, sweptKind, noiseKind, sampleOf, heard, autoStop, envelopeOn, voiceWrite, waveInRange, sweptInRange, noiseInRange}
-use Rattle.voice.specs.SweepModulate.{sweepInRange, stopped}
+use Rattle.common.proofs.Cases.{both, each, ways}
+use Rattle.common.specs.Bits.{bits}
+use Rattle.common.specs.Channel.{stopped, withPitch, pitchStep, side, channelInRange}
+use Rattle.voice.specs.ChannelEnum.{voiceOf, taps, bankWrite, positionWrite, noiseWrite, kindWrite, tickOf, frequencyOf, newBit, clocked, nextSample, sampled, stepFrequency, stepSweepOf, stepSweep, isTap, waveKindInRange, sweptKindInRange, noiseKindInRange, sampleOf, heard, stepAutoStop, stepEnvelope, voiceWrite, waveInRange, sweptInRange, noiseInRange}
+use Rattle.voice.specs.SweepModulate.{sweepInRange}
 use Rattle.voice.specs.Waveform.{sampleAt}
-use Rattle.voice.specs.declared.channel.Channel.{Channel}
-use Rattle.voice.specs.declared.channel.Pitched.{Pitched}
+use Rattle.common.specs.declared.channel.Channel.{Channel}
+use Rattle.common.specs.declared.channel.Pitched.{Pitched}
 use Rattle.voice.specs.declared.channel_enum.Kind.{Kind}
 use Rattle.voice.specs.declared.channel_enum.Kind.the-variants.{Wave, Swept, Noise}
 use Rattle.voice.specs.declared.channel_enum.Voice.{Voice}
@@ -48,12 +48,12 @@ module _
     (f : frequency ≡ frequencyOf (v .channel .pitch .frequency) (v .kind))
     (e : p ≡ pitchStep tick frequency (v .channel .pitch))
   where
-    pub sample-due : p .due ≡ true → voiceOf (withPitch (v .channel) (p .pitch)) (nextSample (v .kind)) ≡ frequencyStep v
-    unfolding frequencyStep sampled
+    pub sample-due : p .due ≡ true → voiceOf (withPitch (v .channel) (p .pitch)) (nextSample (v .kind)) ≡ stepFrequency v
+    unfolding stepFrequency sampled
     sample-due d = rw (← t, ← f, ← e, d)
 
-    pub sample-stays : p .due ≡ false → voiceOf (withPitch (v .channel) (p .pitch)) (v .kind) ≡ frequencyStep v
-    unfolding frequencyStep sampled
+    pub sample-stays : p .due ≡ false → voiceOf (withPitch (v .channel) (p .pitch)) (v .kind) ≡ stepFrequency v
+    unfolding stepFrequency sampled
     sample-stays d = rw (← t, ← f, ← e, d)
 
 -- A kind in range stays in range.
@@ -72,39 +72,39 @@ pub data NoiseOk : Kind → Type 0 where
       → Bool·beq output (eqb (shift % 2) 1) ≡ true
       → NoiseOk (Noise shift tap output)
 
-pub wave-facts : (k : Kind) → waveKind k ≡ true → WaveOk k
-unfolding waveKind
+pub wave-facts : (k : Kind) → waveKindInRange k ≡ true → WaveOk k
+unfolding waveKindInRange
 wave-facts (Wave bank position) h =
     each (leb bank 7) (leb position 31 ∷ []) h (λ t. wave (leb-true _ _ (t .0)) (leb-true _ _ (t .1 .0)))
 wave-facts (Swept bank position sweep) h = absurd (false≢true h)
 wave-facts (Noise shift tap output) h = absurd (false≢true h)
 
-pub wave-test : {k : Kind} → WaveOk k → waveKind k ≡ true
-unfolding waveKind
+pub wave-test : {k : Kind} → WaveOk k → waveKindInRange k ≡ true
+unfolding waveKindInRange
 wave-test (wave n p) = rw (le-leb _ _ n, le-leb _ _ p)
 
-pub swept-facts : (k : Kind) → sweptKind k ≡ true → SweptOk k
-unfolding sweptKind
+pub swept-facts : (k : Kind) → sweptKindInRange k ≡ true → SweptOk k
+unfolding sweptKindInRange
 swept-facts (Wave bank position) h = absurd (false≢true h)
 swept-facts (Swept bank position sweep) h =
     each (leb bank 7) (leb position 31 ∷ sweepInRange sweep ∷ []) h
     (λ t. swept (leb-true _ _ (t .0)) (leb-true _ _ (t .1 .0)) (t .1 .1 .0))
 swept-facts (Noise shift tap output) h = absurd (false≢true h)
 
-pub swept-test : {k : Kind} → SweptOk k → sweptKind k ≡ true
-unfolding sweptKind
+pub swept-test : {k : Kind} → SweptOk k → sweptKindInRange k ≡ true
+unfolding sweptKindInRange
 swept-test (swept n p s) = rw (le-leb _ _ n, le-leb _ _ p, s)
 
-pub noise-facts : (k : Kind) → noiseKind k ≡ true → NoiseOk k
-unfolding noiseKind
+pub noise-facts : (k : Kind) → noiseKindInRange k ≡ true → NoiseOk k
+unfolding noiseKindInRange
 noise-facts (Wave bank position) h = absurd (false≢true h)
 noise-facts (Swept bank position sweep) h = absurd (false≢true h)
 noise-facts (Noise shift tap output) h =
     each (leb shift 32767) (isTap tap ∷ Bool·beq output (eqb (shift % 2) 1) ∷ []) h
     (λ t. noise (leb-true _ _ (t .0)) (t .1 .0) (t .1 .1 .0))
 
-pub noise-test : {k : Kind} → NoiseOk k → noiseKind k ≡ true
-unfolding noiseKind
+pub noise-test : {k : Kind} → NoiseOk k → noiseKindInRange k ≡ true
+unfolding noiseKindInRange
 noise-test (noise n t o) = rw (le-leb _ _ n, t, o)
 
 abbrev areTaps : List ℕ → Bool
@@ -150,8 +150,8 @@ swept-next : {k : Kind} → SweptOk k → SweptOk (nextSample k)
 unfolding nextSample
 swept-next (swept n p s) = swept n (turn _) s
 
-swept-sweep : {k : Kind} (entries : List ℤ) (c : Channel) → SweptOk k → SweptOk (sweepOf entries c k .kind)
-unfolding sweepOf
+swept-sweep : {k : Kind} (entries : List ℤ) (c : Channel) → SweptOk k → SweptOk (stepSweepOf entries c k .kind)
+unfolding stepSweepOf
 swept-sweep entries c (swept n p s) = swept n p (sweep-step-keeps _ s entries c)
 
 new-bit : (shift tap : ℕ) (b : Bool) → isTap tap ≡ true → NoiseOk (Noise (2 * shift % 32768 + cond b 1 0) tap b)
@@ -167,28 +167,28 @@ noise-next (noise {shift} {tap} n t q) = new-bit shift tap (newBit shift tap) t
 -- the same over the tests
 
 module _ (k : Kind) where
-  module _ (h : waveKind k ≡ true) where
-    pub wave-write-keeps : (o b : ℕ) → waveKind (kindWrite o b k) ≡ true
+  module _ (h : waveKindInRange k ≡ true) where
+    pub wave-write-keeps : (o b : ℕ) → waveKindInRange (kindWrite o b k) ≡ true
     wave-write-keeps o b = wave-test (wave-write o b (wave-facts k h))
 
-    pub wave-next-keeps : waveKind (nextSample k) ≡ true
+    pub wave-next-keeps : waveKindInRange (nextSample k) ≡ true
     wave-next-keeps = wave-test (wave-next (wave-facts k h))
 
-  module _ (h : sweptKind k ≡ true) where
-    pub swept-write-keeps : (o b : ℕ) → b < 256 → sweptKind (kindWrite o b k) ≡ true
+  module _ (h : sweptKindInRange k ≡ true) where
+    pub swept-write-keeps : (o b : ℕ) → b < 256 → sweptKindInRange (kindWrite o b k) ≡ true
     swept-write-keeps o b l = swept-test (swept-write o b l (swept-facts k h))
 
-    pub swept-next-keeps : sweptKind (nextSample k) ≡ true
+    pub swept-next-keeps : sweptKindInRange (nextSample k) ≡ true
     swept-next-keeps = swept-test (swept-next (swept-facts k h))
 
-    pub swept-sweep-keeps : (entries : List ℤ) (c : Channel) → sweptKind (sweepOf entries c k .kind) ≡ true
+    pub swept-sweep-keeps : (entries : List ℤ) (c : Channel) → sweptKindInRange (stepSweepOf entries c k .kind) ≡ true
     swept-sweep-keeps entries c = swept-test (swept-sweep entries c (swept-facts k h))
 
-  module _ (h : noiseKind k ≡ true) where
-    pub noise-write-keeps : (o b : ℕ) → noiseKind (kindWrite o b k) ≡ true
+  module _ (h : noiseKindInRange k ≡ true) where
+    pub noise-write-keeps : (o b : ℕ) → noiseKindInRange (kindWrite o b k) ≡ true
     noise-write-keeps o b = noise-test (noise-write o b (noise-facts k h))
 
-    pub noise-next-keeps : noiseKind (nextSample k) ≡ true
+    pub noise-next-keeps : noiseKindInRange (nextSample k) ≡ true
     noise-next-keeps = noise-test (noise-next (noise-facts k h))
 
 -- what a voice adds to a side
@@ -223,9 +223,9 @@ module _ (waves : List ℕ) (w : (i : ℕ) → getD waves i 0 ≤ 63) where
 -- A voice in range stays in range, and is within the bounds that `heard-le` wants: said once, of a test of kinds and a largest tick.
 
 pub record Kept (R : Voice → Bool) : Type 0 where
-  pub auto-stop : (v : Voice) → R v ≡ true → R (autoStop v) ≡ true
-  pub frequency-step : (v : Voice) → R v ≡ true → R (frequencyStep v) ≡ true
-  pub envelope-on : (v : Voice) → R v ≡ true → R (envelopeOn v) ≡ true
+  pub auto-stop : (v : Voice) → R v ≡ true → R (stepAutoStop v) ≡ true
+  pub frequency-step : (v : Voice) → R v ≡ true → R (stepFrequency v) ≡ true
+  pub envelope-on : (v : Voice) → R v ≡ true → R (stepEnvelope v) ≡ true
   pub stop : (v : Voice) → R v ≡ true → R (voiceOf (stopped (v .channel)) (v .kind)) ≡ true
   pub write : (v : Voice) → R v ≡ true → (o b : ℕ) → b < 256 → R (voiceWrite o b v) ≡ true
   pub level : (v : Voice) → R v ≡ true → v .channel .envelope .level ≤ 15
@@ -255,7 +255,7 @@ module _ (most : ℕ) (K : Kind → Bool) where
       sampled-in v k p q = both q (ways (λ n. K n ≡ true) (p .due) (λ _. next _ k) (λ _. k))
 
       kept : Kept (λ v. channelInRange most (v .channel) && K (v .kind))
-      unfolding autoStop frequencyStep envelopeOn voiceWrite
+      unfolding stepAutoStop stepFrequency stepEnvelope voiceWrite
       kept =
           record {
             auto-stop = λ v h. both (channel-live-keeps most _ (channel-of v h)) (kind-of v h);
@@ -282,25 +282,25 @@ noise-tick (noise n t q) = omega arith
 
 pub wave-kept : Kept waveInRange
 unfolding waveInRange
-wave-kept = kept 3 waveKind (λ k h. wave-tick (wave-facts k h)) wave-next-keeps (λ k h o b l. wave-write-keeps k h o b)
+wave-kept = kept 3 waveKindInRange (λ k h. wave-tick (wave-facts k h)) wave-next-keeps (λ k h o b l. wave-write-keeps k h o b)
 
 pub swept-kept : Kept sweptInRange
 unfolding sweptInRange
-swept-kept = kept 3 sweptKind (λ k h. swept-tick (swept-facts k h)) swept-next-keeps swept-write-keeps
+swept-kept = kept 3 sweptKindInRange (λ k h. swept-tick (swept-facts k h)) swept-next-keeps swept-write-keeps
 
 pub noise-kept : Kept noiseInRange
 unfolding noiseInRange
-noise-kept = kept 39 noiseKind (λ k h. noise-tick (noise-facts k h)) noise-next-keeps (λ k h o b l. noise-write-keeps k h o b)
+noise-kept = kept 39 noiseKindInRange (λ k h. noise-tick (noise-facts k h)) noise-next-keeps (λ k h o b l. noise-write-keeps k h o b)
 
 -- step 4, at channel 5 alone
 
-swept-channel : {k : Kind} (entries : List ℤ) (c : Channel) → SweptOk k → channelInRange 3 (sweepOf entries c k .channel) ≡ channelInRange 3 c
-unfolding sweepOf
+swept-channel : {k : Kind} (entries : List ℤ) (c : Channel) → SweptOk k → channelInRange 3 (stepSweepOf entries c k .channel) ≡ channelInRange 3 c
+unfolding stepSweepOf
 swept-channel entries c (swept n p s) = sweep-step-channel _ s entries c 3
 
-pub swept-on-keeps : (entries : List ℤ) (v : Voice) → sweptInRange v ≡ true → sweptInRange (sweepOn entries v) ≡ true
+pub swept-on-keeps : (entries : List ℤ) (v : Voice) → sweptInRange v ≡ true → sweptInRange (stepSweep entries v) ≡ true
 unfolding sweptInRange
 swept-on-keeps entries v h =
-    let k : sweptKind (v .kind) ≡ true = kind-of 3 sweptKind v h in
-    both (swept-channel entries (v .channel) (swept-facts (v .kind) k) ∙ channel-of 3 sweptKind v h)
+    let k : sweptKindInRange (v .kind) ≡ true = kind-of 3 sweptKindInRange v h in
+    both (swept-channel entries (v .channel) (swept-facts (v .kind) k) ∙ channel-of 3 sweptKindInRange v h)
     (swept-sweep-keeps (v .kind) k entries (v .channel))

@@ -1,5 +1,2 @@
-pub mod Cases
-pub mod BitsLaws
-pub mod ChannelLaws
 pub mod SweepModulateLaws
 pub mod ChannelEnumLaws

@@ -14,12 +14,12 @@ use lib.Signed.{mag}
 use mir.Syntax.{w8}
 use mir.Val.{toZ, ofZ}
 use mir.Facts.{toZ-ofZ}
-use Rattle.voice.proofs.BitsLaws.{lifted-lt}
-use Rattle.voice.proofs.Cases.{each, ways}
-use Rattle.voice.specs.Bits.{lifted}
-use Rattle.voice.specs.Channel.{channelInRange, liveInRange}
-use Rattle.voice.specs.SweepModulate.{sweepAt, withFrequencies, withIndex, restart, rewrite, writeMode, writeSweep, sweepWrite, modulated, stopped, swept, sweepDue, sweepTicked, sweepPeriod, sweepStep, sweepInRange}
-use Rattle.voice.specs.declared.channel.Channel.{Channel}
+use Rattle.common.proofs.BitsLaws.{lifted-lt}
+use Rattle.common.proofs.Cases.{each, ways}
+use Rattle.common.specs.Bits.{lifted}
+use Rattle.common.specs.Channel.{stopped, channelInRange, liveInRange}
+use Rattle.voice.specs.SweepModulate.{sweepWith, withFrequencies, withIndex, restart, rewrite, writeMode, writeSweep, sweepWrite, modulateOnce, sweepOnce, sweepDue, sweepTicked, sweepPeriod, sweepStep, sweepInRange}
+use Rattle.common.specs.declared.channel.Channel.{Channel}
 use Rattle.voice.specs.declared.sweep_modulate.Stepped.{Stepped}
 use Rattle.voice.specs.declared.sweep_modulate.SweepModulate.{SweepModulate}
 
@@ -38,36 +38,36 @@ module _ (entries : List ℤ) (s : SweepModulate) {e : ℤ} {up : ℕ} (p : e �
   abbrev pub next : SweepModulate
   next = withFrequencies s (s .last) (s .current) ((s .last % 2048 + up) % 2048)
 
-  pub mod-counts : s .index < 31 → withIndex next (s .index + 1) (s .enable) ≡ modulated entries s
-  unfolding modulated
+  pub mod-counts : s .index < 31 → withIndex next (s .index + 1) (s .enable) ≡ modulateOnce entries s
+  unfolding modulateOnce
   mod-counts i = rw (q, p, mod-add-mod (s .last), lt-leb 31 (s .index) i, mod-eq-of-lt {n = s .index + 1} {m = 32} (omega arith))
 
   module _ (i : 31 ≤ s .index) where
-    pub mod-loops : s .looped ≡ true → withIndex next ((s .index % 32 + 1) % 32) (s .enable) ≡ modulated entries s
-    unfolding modulated
+    pub mod-loops : s .looped ≡ true → withIndex next ((s .index % 32 + 1) % 32) (s .enable) ≡ modulateOnce entries s
+    unfolding modulateOnce
     mod-loops l = rw (q, p, mod-add-mod (s .last), mod-add-mod (s .index), le-leb 31 (s .index) i, l)
 
-    pub mod-ends : s .looped ≡ false → withIndex next (s .index) false ≡ modulated entries s
-    unfolding modulated
+    pub mod-ends : s .looped ≡ false → withIndex next (s .index) false ≡ modulateOnce entries s
+    unfolding modulateOnce
     mod-ends l = rw (q, p, mod-add-mod (s .last), le-leb 31 (s .index) i, l)
 
 -- sweep
 
 module _ (c : Channel) (s : SweepModulate) {part : ℕ} (p : part ≡ s .current / 2 ^ s .shift) where
   pub sweep-down :
-      s .up ≡ false → _≡_ {A = Stepped} (record { sweep = withFrequencies s (s .last) (s .current) (s .current - part); channel = c }) (swept c s)
-  unfolding swept
+      s .up ≡ false → _≡_ {A = Stepped} (record { sweep = withFrequencies s (s .last) (s .current) (s .current - part); channel = c }) (sweepOnce c s)
+  unfolding sweepOnce
   sweep-down u = rw (p, u)
 
   module _ (u : s .up ≡ true) where
-    pub sweep-past : 2047 < s .current + part → _≡_ {A = Stepped} (record { sweep = s; channel = stopped c }) (swept c s)
-    unfolding swept
+    pub sweep-past : 2047 < s .current + part → _≡_ {A = Stepped} (record { sweep = s; channel = stopped c }) (sweepOnce c s)
+    unfolding sweepOnce
     sweep-past h = rw (← p, u, lt-ltb 2047 (s .current + part) h)
 
     pub sweep-up :
         s .current + part ≤ 2047
-        → _≡_ {A = Stepped} (record { sweep = withFrequencies s (s .last) (s .current) (s .current + part); channel = c }) (swept c s)
-    unfolding swept
+        → _≡_ {A = Stepped} (record { sweep = withFrequencies s (s .last) (s .current) (s .current + part); channel = c }) (sweepOnce c s)
+    unfolding sweepOnce
     sweep-up h = rw (← p, u, le-ltb 2047 (s .current + part) h)
 
 -- either, once it is due
@@ -76,11 +76,11 @@ module _ (entries : List ℤ) (c : Channel) (s : SweepModulate) (h : c .live .pl
   abbrev moved : SweepModulate
   moved = withFrequencies s (s .last) (s .next) (s .next)
 
-  pub due-modulates : s .modulate ≡ true → _≡_ {A = Stepped} (record { sweep = modulated entries moved; channel = c }) (sweepDue entries c s)
+  pub due-modulates : s .modulate ≡ true → _≡_ {A = Stepped} (record { sweep = modulateOnce entries moved; channel = c }) (sweepDue entries c s)
   unfolding sweepDue
   due-modulates m = rw (h, m)
 
-  pub due-sweeps : s .modulate ≡ false → swept c moved ≡ sweepDue entries c s
+  pub due-sweeps : s .modulate ≡ false → sweepOnce c moved ≡ sweepDue entries c s
   unfolding sweepDue
   due-sweeps m = rw (h, m)
 
@@ -89,18 +89,18 @@ module _ (entries : List ℤ) (c : Channel) (s : SweepModulate) (h : c .live .pl
 module _ (entries : List ℤ) (c : Channel) (s : SweepModulate) {period : ℕ} (p : period ≡ sweepPeriod s) where
   pub step-counts :
       s .step < period - 1
-      → _≡_ {A = Stepped} (record { sweep = sweepAt s (s .step + 1) (s .counter); channel = c }) (sweepStep entries c s)
+      → _≡_ {A = Stepped} (record { sweep = sweepWith s (s .step + 1) (s .counter); channel = c }) (sweepStep entries c s)
   unfolding sweepStep
   step-counts t = rw (← p, lt-leb period (s .step + 1) (omega arith))
 
   module _ (t : period - 1 ≤ s .step) where
     pub step-ticks :
         s .counter + 1 < s .interval
-        → _≡_ {A = Stepped} (record { sweep = sweepAt s 0 (s .counter + 1); channel = c }) (sweepStep entries c s)
+        → _≡_ {A = Stepped} (record { sweep = sweepWith s 0 (s .counter + 1); channel = c }) (sweepStep entries c s)
     unfolding sweepStep sweepTicked
     step-ticks i = rw (← p, le-leb period (s .step + 1) (omega arith), lt-leb (s .interval) (s .counter + 1) i)
 
-    pub step-due : s .interval ≤ s .counter + 1 → sweepDue entries c (sweepAt s 0 0) ≡ sweepStep entries c s
+    pub step-due : s .interval ≤ s .counter + 1 → sweepDue entries c (sweepWith s 0 0) ≡ sweepStep entries c s
     unfolding sweepStep sweepTicked
     step-due i = rw (← p, le-leb period (s .step + 1) (omega arith), le-leb (s .interval) (s .counter + 1) i)
 
@@ -142,8 +142,8 @@ module _ (s : SweepModulate) where
         ways SweepOk (eqb o 0x14) (λ _. search needs) (λ _.
         ways SweepOk (eqb o 0x1C) (λ _. search needs) (λ _. k)))))
 
-    pub modulated-ok : (entries : List ℤ) → SweepOk (modulated entries s)
-    unfolding modulated
+    pub modulated-ok : (entries : List ℤ) → SweepOk (modulateOnce entries s)
+    unfolding modulateOnce
     modulated-ok entries = ways SweepOk (leb 31 (s .index) && not (s .looped)) (λ _. search needs) (λ _. search needs)
 
 -- what a step leaves in range: the sweep, and the channel, which it stops at most
@@ -155,8 +155,8 @@ module _ (c : Channel) where
   kept : {s : SweepModulate} → SweepOk s → StepOk c (record { sweep = s; channel = c })
   kept k = record { sweep = k; channel = λ most. refl }
 
-  swept-ok : (s : SweepModulate) → SweepOk s → StepOk c (swept c s)
-  unfolding swept channelInRange liveInRange
+  swept-ok : (s : SweepModulate) → SweepOk s → StepOk c (sweepOnce c s)
+  unfolding sweepOnce channelInRange liveInRange
   swept-ok s k =
       ways (StepOk c) (s .up) (λ _.
       ways (StepOk c) (ltb 2047 (s .current + s .current / 2 ^ s .shift)) (λ _. record { sweep = k; channel = λ most. refl }) (λ h.
@@ -176,7 +176,7 @@ module _ (c : Channel) where
     unfolding sweepStep sweepTicked
     step-ok s k =
         ways (StepOk c) (leb (sweepPeriod s) (s .step + 1)) (λ _.
-        ways (StepOk c) (leb (s .interval) (s .counter + 1)) (λ _. due-ok (sweepAt s 0 0) (search needs)) (λ h.
+        ways (StepOk c) (leb (s .interval) (s .counter + 1)) (λ _. due-ok (sweepWith s 0 0) (search needs)) (λ h.
         let f : s .counter + 1 < s .interval = leb-false _ _ h in kept (search needs))) (λ h.
         let f : s .step + 1 < sweepPeriod s = leb-false _ _ h in
         let g : sweepPeriod s ≤ 153609 = ways (λ n. n ≤ 153609) (s .slow) (λ _. omega arith) (λ _. omega arith) in

@@ -5,13 +5,13 @@ use mathlib.Core.List.{List, [], _∷_}
 use lib.Dec.{eqb, leb}
 use lib.ListN.{getD}
 use lib.IntN.{ℤ}
-use Rattle.voice.specs.Bits.{bits}
-use Rattle.voice.specs.Channel.{withLive, withPitch, withEnvelope, channelWrite, liveStep, pitchStep, envelopeStep, side, channelInRange}
+use Rattle.common.specs.Bits.{bits}
+use Rattle.common.specs.Channel.{withLive, withPitch, withEnvelope, channelWrite, liveStep, pitchStep, envelopeStep, side, channelInRange}
 use Rattle.voice.specs.Constants.{waveTick, noiseTick}
 use Rattle.voice.specs.SweepModulate.{sweepWrite, sweepStep, sweepInRange}
 use Rattle.voice.specs.Waveform.{sampleAt}
-use Rattle.voice.specs.declared.channel.Channel.{Channel}
-use Rattle.voice.specs.declared.channel.Pitched.{Pitched}
+use Rattle.common.specs.declared.channel.Channel.{Channel}
+use Rattle.common.specs.declared.channel.Pitched.{Pitched}
 use Rattle.voice.specs.declared.sweep_modulate.Stepped.{Stepped}
 use Rattle.voice.specs.declared.channel_enum.Kind.{Kind}
 use Rattle.voice.specs.declared.channel_enum.Kind.the-variants.{Wave, Swept, Noise}
@@ -29,7 +29,7 @@ taps = 14 ∷ 10 ∷ 13 ∷ 4 ∷ 8 ∷ 6 ∷ 9 ∷ 11 ∷ []
 abbrev pub tapOf : ℕ → ℕ
 tapOf b = getD taps (bits 4 3 b) 0
 
--- "0x00: wave position 0"
+-- 0x00: "wave position 0"
 unfoldable pub positionWrite : ℕ → ℕ → ℕ
 positionWrite offset position = cond (eqb offset 0x00) 0 position
 
@@ -37,7 +37,7 @@ positionWrite offset position = cond (eqb offset 0x00) 0 position
 unfoldable pub bankWrite : ℕ → ℕ → ℕ → ℕ
 bankWrite offset b bank = cond (eqb offset 0x18) (b % 8) bank
 
--- "0x00: noise shift 0 and output off"
+-- 0x00: "noise shift 0 and output off"; 0x14 chooses the tap
 unfoldable pub noiseWrite : ℕ → ℕ → ℕ → ℕ → Bool → Kind
 noiseWrite offset b shift tap output =
     cond (eqb offset 0x00) (Noise 0 tap false) (cond (eqb offset 0x14) (Noise shift (tapOf b) output) (Noise shift tap output))
@@ -54,8 +54,8 @@ voiceWrite offset b v = voiceOf (channelWrite offset b (v .channel)) (kindWrite 
 -- One cycle.
 
 -- step 1
-unfoldable pub autoStop : Voice → Voice
-autoStop v = voiceOf (withLive (v .channel) (liveStep (v .channel .live))) (v .kind)
+unfoldable pub stepAutoStop : Voice → Voice
+stepAutoStop v = voiceOf (withLive (v .channel) (liveStep (v .channel .live))) (v .kind)
 
 -- "at 4 (noise 40)"
 unfoldable pub tickOf : Kind → ℕ
@@ -87,24 +87,24 @@ nextSample (Noise shift tap output) = clocked shift tap
 unfoldable pub sampled : Voice → Pitched → Voice
 sampled v p = voiceOf (withPitch (v .channel) (p .pitch)) (cond (p .due) (nextSample (v .kind)) (v .kind))
 
-unfoldable pub frequencyStep : Voice → Voice
-frequencyStep v =
+unfoldable pub stepFrequency : Voice → Voice
+stepFrequency v =
     sampled v (pitchStep (tickOf (v .kind)) (frequencyOf (v .channel .pitch .frequency) (v .kind)) (v .channel .pitch))
 
 -- step 3
-unfoldable pub envelopeOn : Voice → Voice
-envelopeOn v = voiceOf (withEnvelope (v .channel) (envelopeStep (v .channel .envelope))) (v .kind)
+unfoldable pub stepEnvelope : Voice → Voice
+stepEnvelope v = voiceOf (withEnvelope (v .channel) (envelopeStep (v .channel .envelope))) (v .kind)
 
 -- step 4, at channel 5 alone
-unfoldable pub sweepOf : List ℤ → Channel → Kind → Voice
-sweepOf entries c (Wave bank position) = voiceOf c (Wave bank position)
-sweepOf entries c (Swept bank position sweep) =
+unfoldable pub stepSweepOf : List ℤ → Channel → Kind → Voice
+stepSweepOf entries c (Wave bank position) = voiceOf c (Wave bank position)
+stepSweepOf entries c (Swept bank position sweep) =
     let t : Stepped = sweepStep entries c sweep in
     voiceOf (t .channel) (Swept bank position (t .sweep))
-sweepOf entries c (Noise shift tap output) = voiceOf c (Noise shift tap output)
+stepSweepOf entries c (Noise shift tap output) = voiceOf c (Noise shift tap output)
 
-abbrev pub sweepOn : List ℤ → Voice → Voice
-sweepOn entries v = sweepOf entries (v .channel) (v .kind)
+abbrev pub stepSweep : List ℤ → Voice → Voice
+stepSweep entries v = stepSweepOf entries (v .channel) (v .kind)
 
 -- The frame.
 
@@ -124,29 +124,29 @@ heard waves volume v = cond (v .channel .live .playing) (side (v .channel .envel
 abbrev pub isTap : ℕ → Bool
 isTap t = eqb t 14 || eqb t 10 || eqb t 13 || eqb t 4 || eqb t 8 || eqb t 6 || eqb t 9 || eqb t 11
 
--- "bank 0..7; positions 0..31"
-unfoldable pub waveKind : Kind → Bool
-waveKind (Wave bank position) = leb bank 7 && leb position 31
-waveKind (Swept bank position sweep) = false
-waveKind (Noise shift tap output) = false
+-- "bank 0..7" and a position of 0..31
+unfoldable pub waveKindInRange : Kind → Bool
+waveKindInRange (Wave bank position) = leb bank 7 && leb position 31
+waveKindInRange (Swept bank position sweep) = false
+waveKindInRange (Noise shift tap output) = false
 
-unfoldable pub sweptKind : Kind → Bool
-sweptKind (Wave bank position) = false
-sweptKind (Swept bank position sweep) = leb bank 7 && leb position 31 && sweepInRange sweep
-sweptKind (Noise shift tap output) = false
+unfoldable pub sweptKindInRange : Kind → Bool
+sweptKindInRange (Wave bank position) = false
+sweptKindInRange (Swept bank position sweep) = leb bank 7 && leb position 31 && sweepInRange sweep
+sweptKindInRange (Noise shift tap output) = false
 
 -- "shift 0..32,767; tap one of the eight; noise output = lowest bit of shift"
-unfoldable pub noiseKind : Kind → Bool
-noiseKind (Wave bank position) = false
-noiseKind (Swept bank position sweep) = false
-noiseKind (Noise shift tap output) = leb shift 32767 && isTap tap && Bool·beq output (eqb (shift % 2) 1)
+unfoldable pub noiseKindInRange : Kind → Bool
+noiseKindInRange (Wave bank position) = false
+noiseKindInRange (Swept bank position sweep) = false
+noiseKindInRange (Noise shift tap output) = leb shift 32767 && isTap tap && Bool·beq output (eqb (shift % 2) 1)
 
 -- "tick 0..3 or 0..39"
 unfoldable pub waveInRange : Voice → Bool
-waveInRange v = channelInRange 3 (v .channel) && waveKind (v .kind)
+waveInRange v = channelInRange 3 (v .channel) && waveKindInRange (v .kind)
 
 unfoldable pub sweptInRange : Voice → Bool
-sweptInRange v = channelInRange 3 (v .channel) && sweptKind (v .kind)
+sweptInRange v = channelInRange 3 (v .channel) && sweptKindInRange (v .kind)
 
 unfoldable pub noiseInRange : Voice → Bool
-noiseInRange v = channelInRange 39 (v .channel) && noiseKind (v .kind)
+noiseInRange v = channelInRange 39 (v .channel) && noiseKindInRange (v .kind)

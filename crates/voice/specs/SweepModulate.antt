@@ -5,18 +5,18 @@ use mathlib.Core.List.{List}
 use lib.Dec.{eqb, leb, ltb}
 use lib.ListN.{getD}
 use lib.IntN.{ℤ, pos}
-use Rattle.voice.specs.Bits.{bits, bit, withLow, withHigh, lifted}
-use Rattle.voice.specs.Channel.{withLive, liveAt}
+use Rattle.common.specs.Bits.{bits, bit, withLow, withHigh, lifted}
+use Rattle.common.specs.Channel.{stopped}
 use Rattle.voice.specs.Constants.{sweepSlow, sweepFast}
-use Rattle.voice.specs.declared.channel.Channel.{Channel}
+use Rattle.common.specs.declared.channel.Channel.{Channel}
 use Rattle.voice.specs.declared.sweep_modulate.SweepModulate.{SweepModulate}
 use Rattle.voice.specs.declared.sweep_modulate.Stepped.{Stepped}
 
 -- A record with some of its fields changed.
 
--- the counters, and what a step makes of the frequencies, the index and the enable flag
-abbrev pub sweepAt : SweepModulate → ℕ → ℕ → SweepModulate
-sweepAt s step counter =
+-- the two counters
+abbrev pub sweepWith : SweepModulate → ℕ → ℕ → SweepModulate
+sweepWith s step counter =
     record {
       step = step;
       last = s .last;
@@ -71,15 +71,15 @@ withIndex s index enable =
 
 -- Register writes.
 
--- "0x00: On channel 5 the sweep step counter and modulation index become 0."
+-- 0x00: "On channel 5 the sweep step counter and modulation index become 0."
 unfoldable pub restart : SweepModulate → SweepModulate
-restart s = withIndex (sweepAt s 0 (s .counter)) 0 (s .enable)
+restart s = withIndex (sweepWith s 0 (s .counter)) 0 (s .enable)
 
--- "0x08, 0x0C: On channel 5 these two also change the last written and the next frequency, never the current one."
+-- 0x08 and 0x0C: "On channel 5 these two also change the last written and the next frequency, never the current one."
 unfoldable pub rewrite : (ℕ → ℕ) → SweepModulate → SweepModulate
 rewrite f s = withFrequencies s (f (s .last)) (s .current) (f (s .next))
 
--- "0x14: Channel 5: bit 4 modulate, 5 loop table, 6 enable."
+-- 0x14: "Channel 5: bit 4 modulate, 5 loop table, 6 enable."
 unfoldable pub writeMode : ℕ → SweepModulate → SweepModulate
 writeMode b s =
     record {
@@ -127,36 +127,33 @@ sweepWrite offset b s =
 -- One cycle.
 
 -- "modulate (next = last written + entry, mod 2048; index + 1 mod 32, but at index 31 without loop the index stays and enable clears)"
-unfoldable pub modulated : List ℤ → SweepModulate → SweepModulate
-modulated entries s =
+unfoldable pub modulateOnce : List ℤ → SweepModulate → SweepModulate
+modulateOnce entries s =
     let t : SweepModulate = withFrequencies s (s .last) (s .current) ((s .last + lifted (getD entries (s .index) (pos 0))) % 2048) in
     cond (leb 31 (s .index) && not (s .looped)) (withIndex t (s .index) false) (withIndex t ((s .index + 1) % 32) (s .enable))
 
-abbrev pub stopped : Channel → Channel
-stopped c = withLive c (liveAt (c .live) (c .live .tick) (c .live .counter) false)
-
 -- "sweep by current/2^shift, cut to whole. Up past 2047: play off, next kept. Down: current - that part."
-unfoldable pub swept : Channel → SweepModulate → Stepped
-swept c s =
+unfoldable pub sweepOnce : Channel → SweepModulate → Stepped
+sweepOnce c s =
     let part : ℕ = s .current / 2 ^ s .shift in
     cond (s .up)
     (cond (ltb 2047 (s .current + part)) (record { sweep = s; channel = stopped c })
     (record { sweep = withFrequencies s (s .last) (s .current) (s .current + part); channel = c }))
     (record { sweep = withFrequencies s (s .last) (s .current) (s .current - part); channel = c })
 
--- "current = next; then, only if playing, enabled and interval not 0, either modulate or sweep"
+-- "current = next; then, only if playing, enabled and interval not 0, either modulate" or "sweep"
 unfoldable pub sweepDue : List ℤ → Channel → SweepModulate → Stepped
 sweepDue entries c s =
     let t : SweepModulate = withFrequencies s (s .last) (s .next) (s .next) in
     cond (c .live .playing && s .enable && not (eqb (s .interval) 0))
-    (cond (s .modulate) (record { sweep = modulated entries t; channel = c }) (swept c t))
+    (cond (s .modulate) (record { sweep = modulateOnce entries t; channel = c }) (sweepOnce c t))
     (record { sweep = t; channel = c })
 
--- "the interval counter goes up; when that is at least the interval it becomes 0 and .."
+-- "the interval counter goes up; when that is at least the interval it becomes 0 and:"
 unfoldable pub sweepTicked : List ℤ → Channel → SweepModulate → Stepped
 sweepTicked entries c s =
-    cond (leb (s .interval) (s .counter + 1)) (sweepDue entries c (sweepAt s 0 0))
-    (record { sweep = sweepAt s 0 (s .counter + 1); channel = c })
+    cond (leb (s .interval) (s .counter + 1)) (sweepDue entries c (sweepWith s 0 0))
+    (record { sweep = sweepWith s 0 (s .counter + 1); channel = c })
 
 abbrev pub sweepPeriod : SweepModulate → ℕ
 sweepPeriod s = cond (s .slow) sweepSlow sweepFast
@@ -165,11 +162,11 @@ sweepPeriod s = cond (s .slow) sweepSlow sweepFast
 unfoldable pub sweepStep : List ℤ → Channel → SweepModulate → Stepped
 sweepStep entries c s =
     cond (leb (sweepPeriod s) (s .step + 1)) (sweepTicked entries c s)
-    (record { sweep = sweepAt s (s .step + 1) (s .counter); channel = c })
+    (record { sweep = sweepWith s (s .step + 1) (s .counter); channel = c })
 
 -- Range rules.
 
--- "sweep shift and interval 0..7, interval counter 0..6, step counter 0..153,608; modulation index 0..31; frequencies 0..2047"
+-- "sweep shift and interval 0..7, interval counter 0..6, step counter 0..153,608"; the index 0..31 and the three frequencies 0..2047
 unfoldable pub sweepInRange : SweepModulate → Bool
 sweepInRange s =
     leb (s .step) 153608 && leb (s .last) 2047 && leb (s .current) 2047 && leb (s .next) 2047 && leb (s .interval) 7 && leb (s .shift) 7 && leb (s .counter) 6

@@ -1,14 +1,14 @@
 // A voice: a common record and its kind. The Rust's `ChannelType`.
 ghost use mathlib.Core.Path.{_≡_};
-ghost use Rattle.voice.specs.ChannelEnum.{isTap, tapOf, positionWrite, bankWrite, noiseWrite, kindWrite, voiceWrite, tickOf, frequencyOf, clocked, nextSample, autoStop, frequencyStep, envelopeOn, sweepOn, sampleOf, heard, waveInRange, sweptInRange, noiseInRange};
-use crate::bits;
-use crate::channel;
-use crate::channel::Channel;
+ghost use Rattle.voice.specs.ChannelEnum.{isTap, tapOf, positionWrite, bankWrite, noiseWrite, kindWrite, voiceWrite, tickOf, frequencyOf, clocked, nextSample, stepAutoStop, stepFrequency, stepEnvelope, stepSweep, sampleOf, heard, waveInRange, sweptInRange, noiseInRange};
 use crate::constants::NOISE_CHANNEL_BASE_FREQUENCY_CYCLE_COUNT;
 use crate::constants::WAVE_CHANNEL_BASE_FREQUENCY_CYCLE_COUNT;
 use crate::sweep_modulate;
 use crate::sweep_modulate::SweepModulate;
 use crate::waveform;
+use common::bits;
+use common::channel;
+use common::channel::Channel;
 
 pub enum Kind {
     Wave {
@@ -200,7 +200,7 @@ fn increment_sample(kind: Kind) -> Kind
 }
 
 pub fn step_auto_deactivate(v: Voice) -> Voice
-    ensures { λ r. ⌜ r ≡ autoStop v ⌝ }
+    ensures { λ r. ⌜ r ≡ stepAutoStop v ⌝ }
 {
     let mut c = v.channel;
     c.live = channel::live_step(c.live);
@@ -210,7 +210,7 @@ pub fn step_auto_deactivate(v: Voice) -> Voice
 }
 
 pub fn step_sampling_frequency(v: Voice) -> Voice
-    ensures { λ r. ⌜ r ≡ frequencyStep v ⌝ }
+    ensures { λ r. ⌜ r ≡ stepFrequency v ⌝ }
 {
     let mut c = v.channel;
     let kind = v.kind;
@@ -234,7 +234,7 @@ pub fn step_sampling_frequency(v: Voice) -> Voice
 }
 
 pub fn step_envelope(v: Voice) -> Voice
-    ensures { λ r. ⌜ r ≡ envelopeOn v ⌝ }
+    ensures { λ r. ⌜ r ≡ stepEnvelope v ⌝ }
 {
     let mut c = v.channel;
     c.envelope = channel::envelope_step(c.envelope);
@@ -244,7 +244,7 @@ pub fn step_envelope(v: Voice) -> Voice
 }
 
 pub fn step_sweep_modulate(v: Voice, modulation_data: &[i8; 32]) -> Voice
-    ensures { λ r. ⌜ r ≡ sweepOn (now («modulation_data» .entry)) v ⌝ }
+    ensures { λ r. ⌜ r ≡ stepSweep (now («modulation_data» .entry)) v ⌝ }
 {
     let kind = v.kind;
     match kind {

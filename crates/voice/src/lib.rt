@@ -1,6 +1,4 @@
-// One voice of the sound unit: its record and its kind, what a register write does to it, and the steps of a cycle.
-pub mod bits;
-pub mod channel;
+// One voice of the sound unit: a common record and its kind, with channel 5's sweep and the noise's shift register.
 pub mod channel_enum;
 pub mod constants;
 pub mod sweep_modulate;

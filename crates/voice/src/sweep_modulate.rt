@@ -2,11 +2,11 @@
 ghost use mathlib.Core.Path.{_≡_};
 ghost use lib.ListN.{getD};
 ghost use lib.IntN.{pos};
-ghost use Rattle.voice.specs.SweepModulate.{sweepWrite, modulated, swept, sweepDue, sweepStep, sweepInRange};
-use crate::bits;
-use crate::channel::Channel;
+ghost use Rattle.voice.specs.SweepModulate.{sweepWrite, modulateOnce, sweepOnce, sweepDue, sweepStep, sweepInRange};
 use crate::constants::SWEEP_FAST_CYCLE_COUNT;
 use crate::constants::SWEEP_SLOW_CYCLE_COUNT;
+use common::bits;
+use common::channel::Channel;
 
 pub struct SweepModulate {
     pub step: u32,
@@ -72,7 +72,7 @@ fn entry(modulation_data: &[i8; 32], index: u8) -> i8
 }
 
 fn modulate(s: SweepModulate, modulation_data: &[i8; 32]) -> SweepModulate
-    ensures { λ r. ⌜ r ≡ modulated (now («modulation_data» .entry)) s ⌝ }
+    ensures { λ r. ⌜ r ≡ modulateOnce (now («modulation_data» .entry)) s ⌝ }
 {
     let mut t = s;
     t.next = (s.last % 2048 + bits::lifted(entry(modulation_data, s.index))) % 2048;
@@ -89,7 +89,7 @@ fn modulate(s: SweepModulate, modulation_data: &[i8; 32]) -> SweepModulate
 }
 
 fn sweep(s: SweepModulate, channel: Channel) -> Stepped
-    ensures { λ r. ⌜ r ≡ swept channel s ⌝ }
+    ensures { λ r. ⌜ r ≡ sweepOnce channel s ⌝ }
 {
     let part = bits::shifted(s.current, s.shift);
     let mut t = s;

@@ -16,10 +16,11 @@ use denote.Shadow.{shadow}
 use denote.Signed.{SInt}
 use lib.ListN.{getD, set, take, drop, length, length-map}
 use lib.Seq.{drop-cons, set-out, take-all}
-use Rattle.voice.specs.Bits.{bit, signed}
+use Rattle.common.specs.Bits.{bit, signed}
 use Rattle.voice.specs.ChannelEnum.{voiceWrite}
 use Rattle.voice.specs.declared.channel_enum.Voice.{Voice}
-use Rattle.vsu.specs.Core.{decodeOf, between, plays, anyPlays, voiceAt, stop, write, writeTo, withWaves, withModulation, withVoices, offWave, cut, total, allAtMost, allBytes, shaped, voicesInRange, inRange, moved, run, frames, framesDue, sides, runAnswer, runOut}
+use Rattle.vsu.specs.Core.{decodeOf, between, plays, anyPlays, voiceAt, stop, write, writeTo, withWaves, withModulation, withVoices, offWave, frameSide, total, allAtMost, allBytes, shaped, voicesInRange, inRange, moved, run, frames, framesDue, sides, fitsIn, movedNumber, runAnswer, runNumber, runOut}
+use Rattle.refusal.specs.Refusal.{answerNumber}
 use Rattle.refusal.specs.declared.Answer.the-variants.{Accepted, Refused}
 use Rattle.refusal.specs.declared.Refusal.the-variants.{State, Room}
 use Rattle.vsu.specs.declared.core.Moved.{Moved}
@@ -173,7 +174,7 @@ module _ (u : Vsu) (b a : ℕ) where
 
 -- the frame
 
-pub frame-side : {sum : ℕ} → sum ≤ 5478 → toZ w16 (sum / 8 * 32) ≡ cut sum
+pub frame-side : {sum : ℕ} → sum ≤ 5478 → toZ w16 (sum / 8 * 32) ≡ frameSide sum
 frame-side {sum} h = rw (lt-ltb (sum / 8 * 32) 32768 (omega arith)) (ap pos (omega arith))
 
 -- the voices' sum, from the front
@@ -195,27 +196,36 @@ module _ (f : Voice → ℕ) where
   pub sum-all : (vs : List Voice) (i : ℕ) → length vs ≤ i → {x : ℕ} → x ≡ total (take i (map f vs)) → x ≡ total (map f vs)
   sum-all vs i h p = p ∙ ap total (take-all i (map f vs) (rw (length-map vs f) h))
 
--- the answers: `p` is what the range test said
+-- the answers, with their numbers: `p` is what the range test said
 
 module _ (u : Vsu) {p : Bool} (e : p ≡ inRange u) where
-  pub moved-on : p ≡ true → {s t : Vsu} → s ≡ t → record { state = s; answer = Accepted } ≡ moved u t
-  unfolding moved
-  moved-on h q = rw (q, ← e, h)
+  pub moved-on : p ≡ true → {s t : Vsu} → s ≡ t → (record { state = s; answer = Accepted } ≡ moved u t) × (answerNumber Accepted ≡ movedNumber u)
+  unfolding moved movedNumber
+  moved-on h q = (rw (q, ← e, h), rw (← e, h))
 
-  pub moved-refused : p ≡ false → (t : Vsu) → record { state = u; answer = Refused State } ≡ moved u t
-  unfolding moved
-  moved-refused h t = rw (← e, h)
+  pub moved-refused : p ≡ false → (t : Vsu) → (record { state = u; answer = Refused State } ≡ moved u t) × (answerNumber (Refused State) ≡ movedNumber u)
+  unfolding moved movedNumber
+  moved-refused h t = (rw (← e, h), rw (← e, h))
 
   module _ (n : ℕ) (out : List ℤ) where
-    pub run-refused : p ≡ false → (record { state = u; frames = 0; answer = Refused State } ≡ runAnswer n u (length out)) × (out ≡ runOut n u out)
-    unfolding runAnswer runOut
-    run-refused h = (rw (← e, h), rw (← e, h))
+    -- the answer, its number, and what the buffer holds
+    abbrev pub Promised : Ran → List ℤ → Type 0
+    Promised r after =
+        (r ≡ runAnswer n u (length out)) × ((answerNumber (r .answer) ≡ runNumber n u (length out)) × (after ≡ runOut n u out))
+
+    pub run-refused : p ≡ false → Promised (record { state = u; frames = 0; answer = Refused State }) out
+    unfolding runAnswer runNumber runOut
+    run-refused h = (rw (← e, h), (rw (← e, h), rw (← e, h)))
 
     module _ (h : p ≡ true) where
-      pub run-crowded : length out / 2 < framesDue u n → (record { state = u; frames = 0; answer = Refused Room } ≡ runAnswer n u (length out)) × (out ≡ runOut n u out)
-      unfolding runAnswer runOut
-      run-crowded g = (rw (← e, h, lt-leb (framesDue u n) (length out / 2) g), rw (← e, h, lt-leb (framesDue u n) (length out / 2) g))
+      pub run-crowded : length out / 2 < framesDue u n → Promised (record { state = u; frames = 0; answer = Refused Room }) out
+      unfolding runAnswer runNumber runOut
+      run-crowded g =
+          let t : fitsIn n u (length out) ≡ false = lt-leb (framesDue u n) (length out / 2) g in
+          (rw (← e, h, t), (rw (← e, h, t), rw (← e, h, t)))
 
-      pub run-made : framesDue u n ≤ length out / 2 → {s : Vsu} {after : List ℤ} → s ≡ run n u → after ≡ sides (frames n u) ++ drop (framesDue u n * 2) out → (record { state = s; frames = framesDue u n; answer = Accepted } ≡ runAnswer n u (length out)) × (after ≡ runOut n u out)
-      unfolding runAnswer runOut
-      run-made g q r = (rw (q, ← e, h, le-leb (framesDue u n) (length out / 2) g), rw (r, ← e, h, le-leb (framesDue u n) (length out / 2) g))
+      pub run-made : framesDue u n ≤ length out / 2 → {s : Vsu} {after : List ℤ} → s ≡ run n u → after ≡ sides (frames n u) ++ drop (framesDue u n * 2) out → Promised (record { state = s; frames = framesDue u n; answer = Accepted }) after
+      unfolding runAnswer runNumber runOut
+      run-made g q r =
+          let t : fitsIn n u (length out) ≡ true = le-leb (framesDue u n) (length out / 2) g in
+          (rw (q, ← e, h, t), (rw (← e, h, t), rw (r, ← e, h, t)))

@@ -1,25 +1,25 @@
--- Document 01, "Figures to prove as one table": each figure as what the definitions compute beside what 01 says, and one theorem.
-use Prim.Native.Nat.{ℕ, zero, suc, _+_, _*_, _/_}
+-- Document 01, "Figures to prove as one table": what the definitions compute beside what 01 says, and one theorem.
+use Prim.Native.Nat.{ℕ, zero, suc}
 use mathlib.Core.Path.{_≡_, refl}
-use mathlib.Core.Bool.{Bool, true, false, cond}
-use mathlib.Core.List.{List, [], _∷_, map}
-use lib.IntN.{ℤ, pos, negsuc}
-use lib.Signed.{mag}
-use lib.ListN.{replicate, set}
-use Rattle.voice.specs.Bits.{lifted}
-use Rattle.voice.specs.Channel.{amplitudeOf, side, withLive, liveAt}
-use Rattle.voice.specs.ChannelEnum.{clocked, voiceOf, heard, sampleOf}
-use Rattle.voice.specs.SweepModulate.{modulated, swept, withFrequencies, withIndex}
+use mathlib.Core.Bool.{Bool, true, false, cond, _&&_, not}
+use mathlib.Core.List.{List, [], _∷_, _++_, map}
+use lib.IntN.{ℤ, pos}
+use lib.ListN.{replicate}
+use Rattle.common.specs.Bits.{lifted, signed}
+use Rattle.common.specs.Channel.{amplitudeOf, side}
+use Rattle.voice.specs.ChannelEnum.{clocked, heard, sampleOf, taps, voiceOf}
+use Rattle.voice.specs.SweepModulate.{modulateOnce, sweepDue, sweepOnce}
 use Rattle.voice.specs.Waveform.{sampleAt}
-use Rattle.voice.specs.declared.channel.Channel.{Channel}
+use Rattle.common.specs.declared.channel.Channel.{Channel}
 use Rattle.voice.specs.declared.channel_enum.Kind.{Kind}
 use Rattle.voice.specs.declared.channel_enum.Kind.the-variants.{Wave, Swept, Noise}
 use Rattle.voice.specs.declared.channel_enum.Voice.{Voice}
 use Rattle.voice.specs.declared.sweep_modulate.SweepModulate.{SweepModulate}
 use Rattle.voice.specs.declared.sweep_modulate.Stepped.{Stepped}
-use Rattle.vsu.specs.Core.{cut, frameOf, offChannel, offSwept, sumsOf}
+use Rattle.vsu.specs.Core.{frameOf, frameSide, sumsOf}
 
--- a noise kind's shift after n clocks from a shift
+-- a noise's shift after n clocks
+
 shiftOf : Kind → ℕ
 shiftOf (Wave bank position) = 0
 shiftOf (Swept bank position sweep) = 0
@@ -29,7 +29,8 @@ clocks : ℕ → ℕ → ℕ → ℕ
 clocks zero tap shift = shift
 clocks (suc n) tap shift = shiftOf (clocked (clocks n tap shift) tap)
 
--- a voice that plays at full level and volume, and its frame's left side where six of them play at sample 63
+-- a voice that plays at full level and volume
+
 loud : Voice
 loud =
     voiceOf
@@ -38,92 +39,84 @@ loud =
       pitch = record { tick = 0; frequency = 0; counter = 0 };
       envelope = record { tick = 0; interval = 0; step = 0; level = 15; reload = 0; up = false; on = false; looped = false };
       left = 15;
-      right = 15
+      right = 15;
     })
     (Wave 0 0)
 
-six : ℤ
-six = frameOf (replicate 160 63) (replicate 6 loud) .left
+-- channel 5 playing, enabled, interval 1, shift 1, up, without loop: what its next sweep interval makes of it
 
--- a sweep by shift 1 upwards, and one that modulates
-sweepOf : ℕ → Bool → ℕ → ℕ → SweepModulate
-sweepOf frequency loops last index =
-    record {
+due : Bool → ℕ → ℕ → ℕ → ℕ → Stepped
+due modulate last next index entry =
+    sweepDue (replicate 32 (signed entry)) (loud .channel)
+    (record {
       step = 0;
       last = last;
-      current = frequency;
-      next = frequency;
+      current = 0;
+      next = next;
       interval = 1;
       shift = 1;
       counter = 0;
       index = index;
       enable = true;
-      looped = loops;
-      modulate = false;
+      looped = false;
+      modulate = modulate;
       slow = false;
-      up = true
-    }
+      up = true;
+    })
 
-playing : Channel
-playing = loud .channel
+bitOf : Bool → ℤ
+bitOf b = cond b (pos 1) (pos 0)
 
-bitOf : Bool → ℕ
-bitOf b = cond b 1 0
-
-upFrom : ℕ → Stepped
-upFrom frequency = swept playing (sweepOf frequency false 0 0)
-
-modulatedBy : ℤ → ℕ → SweepModulate
-modulatedBy entry last = modulated (replicate 32 entry) (sweepOf 0 false last 0)
-
-ended : SweepModulate
-ended = modulated (replicate 32 (pos 0)) (sweepOf 0 false 0 31)
-
-pub computed : List ℕ
+pub computed : List ℤ
 computed =
-    side 15 15 63
-    ∷ mag six
-    ∷ side 1 1 63
-    ∷ mag (cut 7)
-    ∷ mag (cut 8)
-    ∷ clocks 8 14 0
-    ∷ clocks 9 14 0
-    ∷ clocks 8 6 0
-    ∷ clocks 1 14 0x7FFF
-    ∷ upFrom 1365 .sweep .next
-    ∷ bitOf (upFrom 1365 .channel .live .playing)
-    ∷ upFrom 1366 .sweep .next
-    ∷ bitOf (upFrom 1366 .channel .live .playing)
-    ∷ modulatedBy (negsuc 127) 100 .next
-    ∷ modulatedBy (negsuc 0) 0 .next
-    ∷ bitOf (ended .enable)
-    ∷ ended .index
-    ∷ []
+    pos (side 15 15 63)
+    ∷ frameOf (replicate 160 63) (replicate 6 loud) .left
+    ∷ pos (side 1 1 63)
+    ∷ frameSide 7
+    ∷ frameSide 8
+    ∷ pos (clocks 8 14 0)
+    ∷ pos (clocks 9 14 0)
+    ∷ pos (clocks 8 6 0)
+    ∷ pos (due false 0 1365 0 0 .sweep .next)
+    ∷ bitOf (due false 0 1365 0 0 .channel .live .playing)
+    ∷ pos (due false 0 1366 0 0 .sweep .next)
+    ∷ bitOf (due false 0 1366 0 0 .channel .live .playing)
+    ∷ pos (due true 100 0 0 0x80 .sweep .next)
+    ∷ pos (due true 0 0 0 0xFF .sweep .next)
+    ∷ bitOf (due true 0 0 31 0 .sweep .enable)
+    ∷ pos (due true 0 0 31 0 .sweep .index)
+    ∷ map (λ (tap : ℕ). pos (clocks 1 tap 0x7FFF)) taps
 
-pub expected : List ℕ
+pub expected : List ℤ
 expected =
     -- P1 level 15, volume 15, sample 63: 913; six: 21,888
-    913 ∷ 21888
+    pos 913
+    ∷ pos 21888
     -- P2 level 1, volume 1, sample 63: 31
-    ∷ 31
+    ∷ pos 31
     -- P3 sum 7: 0, sum 8: 32
-    ∷ 0 ∷ 32
+    ∷ pos 0
+    ∷ pos 32
     -- P4 noise tap 14 from 0: 8 clocks 0xFF, 9 clocks 0x1FE
-    ∷ 0xFF ∷ 0x1FE
+    ∷ pos 0xFF
+    ∷ pos 0x1FE
     -- P5 tap 6: 8 clocks 0xFE
-    ∷ 0xFE
-    -- P6 0x7FFF stays
-    ∷ 0x7FFF
-    -- P7 sweep up, shift 1: 1365 to 2047; 1366 stops
-    ∷ 2047 ∷ 1 ∷ 1366 ∷ 0
+    ∷ pos 0xFE
+    -- P7 sweep up, shift 1: 1365 to 2047; 1366 stops (and the next frequency is kept)
+    ∷ pos 2047
+    ∷ pos 1
+    ∷ pos 1366
+    ∷ pos 0
     -- P8 last 100, entry -128: 2020
-    ∷ 2020
+    ∷ pos 2020
     -- P9 last 0, entry -1: 2047
-    ∷ 2047
+    ∷ pos 2047
     -- P10 index 31, no loop: enable off, index 31
-    ∷ 0 ∷ 31
-    ∷ []
+    ∷ pos 0
+    ∷ pos 31
+    -- P6 0x7FFF stays, with each of the eight taps
+    ∷ replicate 8 (pos 0x7FFF)
 
 pub figures : computed ≡ expected
-unfolding computed expected six loud clocks shiftOf sweepOf playing bitOf upFrom modulatedBy ended side amplitudeOf frameOf sumsOf heard sampleOf sampleAt clocked swept modulated lifted
+unfolding computed expected loud clocks shiftOf due bitOf side amplitudeOf frameOf sumsOf heard sampleOf sampleAt clocked sweepDue sweepOnce modulateOnce lifted signed
 figures = refl

@@ -13,14 +13,14 @@ use lib.IntN.{ℤ, pos, negsuc}
 use lib.Signed.{mag}
 use lib.ListN.{getD, set, length, length-map, length-set}
 use lib.Seq.{getD-set-same, getD-set-other}
-use Rattle.voice.proofs.Cases.{both, each, ways}
+use Rattle.common.proofs.Cases.{both, each, ways}
 use Rattle.voice.proofs.ChannelEnumLaws.{Kept, wave-kept, swept-kept, noise-kept, swept-on-keeps, heard-le}
-use Rattle.voice.specs.Bits.{bit, signed}
-use Rattle.voice.specs.Channel.{channelInRange, liveInRange, pitchInRange, envelopeInRange}
+use Rattle.common.specs.Bits.{bit, signed}
+use Rattle.common.specs.Channel.{channelInRange, liveInRange, pitchInRange, envelopeInRange}
 use Rattle.voice.specs.SweepModulate.{sweepInRange}
-use Rattle.voice.specs.ChannelEnum.{autoStop, frequencyStep, envelopeOn, sweepOn, voiceWrite, waveInRange, sweptInRange, noiseInRange, waveKind, sweptKind, noiseKind}
+use Rattle.voice.specs.ChannelEnum.{stepAutoStop, stepFrequency, stepEnvelope, stepSweep, voiceWrite, waveInRange, sweptInRange, noiseInRange, waveKindInRange, sweptKindInRange, noiseKindInRange}
 use Rattle.voice.specs.declared.channel_enum.Voice.{Voice}
-use Rattle.vsu.specs.Core.{Quiet, allAtMost, allBytes, anyPlays, cut, cycle, decodeOf, frameDue, frameOf, heardLeft, heardRight, inRange, plays, powerOn, run, shaped, stop, sumsOf, sweepFifth, total, voiceAt, voicesAfter, voicesInRange, write, writeTo}
+use Rattle.vsu.specs.Core.{SmallSums, allAtMost, allBytes, anyPlays, frameSide, cycle, decodeOf, makesFrame, frameOf, heardLeft, heardRight, inRange, plays, powerOn, run, shaped, stop, sumsOf, sweepFifth, total, voiceAt, voicesAfter, voicesInRange, write, writeTo}
 use Rattle.vsu.specs.declared.core.Register.{Register}
 use Rattle.vsu.specs.declared.core.Register.the-variants as registers
 use Rattle.vsu.specs.declared.core.Vsu.{Vsu}
@@ -170,11 +170,11 @@ module _ (P : Voice → Type 0) {vs : List Voice} (k : Six vs) (w : (v : Voice) 
 step-keeps : (m : List ℤ) {vs : List Voice} → Six vs → Six (voicesAfter m vs)
 unfolding voicesAfter sweepFifth Keeps
 step-keeps m {vs} k =
-    let a : Six (map autoStop vs) = map-keeps autoStop (wave-kept .auto-stop) (swept-kept .auto-stop) (noise-kept .auto-stop) k in
-    let b : Six (map frequencyStep (map autoStop vs)) =
-    map-keeps frequencyStep (wave-kept .frequency-step) (swept-kept .frequency-step) (noise-kept .frequency-step) a in
-    let c : Six (map envelopeOn (map frequencyStep (map autoStop vs))) =
-    map-keeps envelopeOn (wave-kept .envelope-on) (swept-kept .envelope-on) (noise-kept .envelope-on) b in
+    let a : Six (map stepAutoStop vs) = map-keeps stepAutoStop (wave-kept .auto-stop) (swept-kept .auto-stop) (noise-kept .auto-stop) k in
+    let b : Six (map stepFrequency (map stepAutoStop vs)) =
+    map-keeps stepFrequency (wave-kept .frequency-step) (swept-kept .frequency-step) (noise-kept .frequency-step) a in
+    let c : Six (map stepEnvelope (map stepFrequency (map stepAutoStop vs))) =
+    map-keeps stepEnvelope (wave-kept .envelope-on) (swept-kept .envelope-on) (noise-kept .envelope-on) b in
     set-keeps _ c 4 _ (λ e. swept-on-keeps m _ (c .fifth)) (λ e. absurd (omega arith)) (λ h. absurd (omega arith))
 
 cycle-facts : (u : Vsu) → InRange u → InRange (cycle u)
@@ -186,7 +186,7 @@ cycle-facts u k =
       small = k .small;
       entries = k .entries;
       bytes = k .bytes;
-      output = ways (λ (o : ℕ). o ≤ 479) (frameDue u) (λ d. omega arith) (λ d. omega (arith, leb-false 480 (u .output + 1) d));
+      output = ways (λ (o : ℕ). o ≤ 479) (makesFrame u) (λ d. omega arith) (λ d. omega (arith, leb-false 480 (u .output + 1) d));
     }
 
 pub cycle-keeps : (u : Vsu) → inRange u ≡ true → inRange (cycle u) ≡ true
@@ -279,7 +279,7 @@ pub write-keeps : (u : Vsu) (a b : ℕ) → b < 256 → inRange u ≡ true → i
 write-keeps u a b h r = range-test (write a b u) (write-facts u (range-facts u r) b h (decodeOf a))
 
 pub power-on-in-range : inRange powerOn ≡ true
-unfolding inRange shaped voicesInRange powerOn allAtMost allBytes waveInRange sweptInRange noiseInRange waveKind sweptKind noiseKind channelInRange liveInRange pitchInRange envelopeInRange sweepInRange
+unfolding inRange shaped voicesInRange powerOn allAtMost allBytes waveInRange sweptInRange noiseInRange waveKindInRange sweptKindInRange noiseKindInRange channelInRange liveInRange pitchInRange envelopeInRange sweepInRange
 power-on-in-range = refl
 
 -- the sums of a state in range
@@ -298,7 +298,7 @@ module _ (u : Vsu) (k : InRange u) where
   sum-le : (f : Voice → ℕ) → ((i : ℕ) → i < 6 → f (voiceAt i (u .voices)) ≤ 913) → total (map f (u .voices)) ≤ 5478
   sum-le f h = rw (k .voices .six) at (total-le f 913 (u .voices) (λ i g. h i (rw (k .voices .six) at g)))
 
-  pub quiet : Quiet (sumsOf (u .waves) (u .voices))
+  pub quiet : SmallSums (sumsOf (u .waves) (u .voices))
   unfolding sumsOf
   quiet =
       let s : (i : ℕ) → getD (u .waves) i 0 ≤ 63 = small-at (u .waves) (k .small) in
@@ -324,10 +324,10 @@ pub record Side (z : ℤ) : Type 0 where
   pub is : z ≡ pos (number * 32)
   pub most : number * 32 ≤ 21888
 
-side-of : (sum : ℕ) → sum ≤ 5478 → Side (cut sum)
+side-of : (sum : ℕ) → sum ≤ 5478 → Side (frameSide sum)
 side-of sum h = record { number = sum / 8; is = ap pos (omega arith); most = omega arith }
 
 pub frame-sides : (u : Vsu) → inRange u ≡ true → Side (frameOf (u .waves) (u .voices) .left) × Side (frameOf (u .waves) (u .voices) .right)
 unfolding frameOf
 frame-sides u h =
-    let q : Quiet (sumsOf (u .waves) (u .voices)) = quiet u (range-facts u h) in (side-of _ (q .left), side-of _ (q .right))
+    let q : SmallSums (sumsOf (u .waves) (u .voices)) = quiet u (range-facts u h) in (side-of _ (q .left), side-of _ (q .right))

@@ -11,10 +11,10 @@ use lib.Dec.{leb}
 use lib.IntN.{ℤ}
 use lib.ListN.{drop, set, length, getD, length-append, length-drop}
 use lib.Seq.{drop-cons}
-use Rattle.voice.proofs.Cases.{ways}
+use Rattle.common.proofs.Cases.{ways}
 use Rattle.voice.specs.declared.channel_enum.Voice.{Voice}
 use Rattle.vsu.proofs.RangeLaws.{Side, range-facts, cycle-keeps, run-keeps, quiet, frame-sides}
-use Rattle.vsu.specs.Core.{Quiet, cycle, frameOf, frameDue, frames, framesDue, inRange, made, run, sides, sumsOf, voicesAfter}
+use Rattle.vsu.specs.Core.{SmallSums, cycle, frameOf, makesFrame, frames, framesDue, inRange, made, run, sides, sumsOf, voicesAfter}
 use Rattle.vsu.specs.declared.core.Frame.{Frame}
 use Rattle.vsu.specs.declared.core.Vsu.{Vsu}
 
@@ -66,16 +66,16 @@ module _ (i : ℕ) (u : Vsu) where
 
 -- the number of frames
 
-made-length : (w : Vsu) → length (made w) ≡ cond (frameDue w) 1 0
+made-length : (w : Vsu) → length (made w) ≡ cond (makesFrame w) 1 0
 unfolding made
-made-length w = ways (λ (l : List Frame). length l ≡ cond (frameDue w) 1 0) (frameDue w) (λ d. rw d) (λ d. rw d)
+made-length w = ways (λ (l : List Frame). length l ≡ cond (makesFrame w) 1 0) (makesFrame w) (λ d. rw d) (λ d. rw d)
 
 module _ (u : Vsu) (h : u .output ≤ 479) where
   pub output-at : (n : ℕ) → run n u .output ≡ (u .output + n) % 480
   unfolding run cycle
   output-at zero = omega arith
   output-at (suc n) =
-      ways (λ (o : ℕ). o ≡ (u .output + suc n) % 480) (frameDue (run n u)) (λ d. omega (arith, output-at n, leb-true 480 (run n u .output + 1) d))
+      ways (λ (o : ℕ). o ≡ (u .output + suc n) % 480) (makesFrame (run n u)) (λ d. omega (arith, output-at n, leb-true 480 (run n u .output + 1) d))
       (λ d. omega (arith, output-at n, leb-false 480 (run n u .output + 1) d))
 
   pub frames-length : (n : ℕ) → length (frames n u) ≡ framesDue u n
@@ -83,7 +83,7 @@ module _ (u : Vsu) (h : u .output ≤ 479) where
   frames-length zero = omega arith
   frames-length (suc n) =
       length-append (frames n u) (made (run n u)) ∙ ap (λ (k : ℕ). length (frames n u) + k) (made-length (run n u))
-      ∙ ways (λ (k : ℕ). length (frames n u) + k ≡ framesDue u (suc n)) (frameDue (run n u))
+      ∙ ways (λ (k : ℕ). length (frames n u) + k ≡ framesDue u (suc n)) (makesFrame (run n u))
       (λ d. omega (arith, frames-length n, output-at n, leb-true 480 (run n u .output + 1) d))
       (λ d. omega (arith, frames-length n, output-at n, leb-false 480 (run n u .output + 1) d))
 
@@ -157,10 +157,10 @@ module _ (u : Vsu) (h : inRange u ≡ true) where
     pub front-room : i < n → {o : ℕ} → o ≡ run i u .output → 479 ≤ o → at + 1 < room
     front-room l p g = omega (arith, front-at i e, output-at u below i)
 
-  pub quiet-at : (n : ℕ) {vs : List Voice} → vs ≡ run n u .voices → Quiet (sumsOf (u .waves) vs)
+  pub quiet-at : (n : ℕ) {vs : List Voice} → vs ≡ run n u .voices → SmallSums (sumsOf (u .waves) vs)
   quiet-at n p =
       rw p
-      (subst (λ (w : List ℕ). Quiet (sumsOf w (run n u .voices))) (run-waves n u)
+      (subst (λ (w : List ℕ). SmallSums (sumsOf w (run n u .voices))) (run-waves n u)
       (quiet (run n u) (range-facts (run n u) (run-keeps n u h))))
 
 -- every frame of a run from a state in range
@@ -178,7 +178,7 @@ Sides f = Side (f .left) × Side (f .right)
 
 made-sides : (w : Vsu) → inRange w ≡ true → Each Sides (made w)
 unfolding made cycle
-made-sides w h = ways (Each Sides) (frameDue w) (λ _. (frame-sides (cycle w) (cycle-keeps w h), tt)) (λ _. tt)
+made-sides w h = ways (Each Sides) (makesFrame w) (λ _. (frame-sides (cycle w) (cycle-keeps w h), tt)) (λ _. tt)
 
 pub frames-sides : (n : ℕ) (u : Vsu) → inRange u ≡ true → Each Sides (frames n u)
 unfolding frames

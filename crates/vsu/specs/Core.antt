@@ -8,15 +8,14 @@ use lib.IntN.{ℤ, pos}
 use lib.Signed.{mag}
 use Rattle.refusal.specs.declared.Answer.the-variants.{Accepted, Refused}
 use Rattle.refusal.specs.declared.Refusal.the-variants.{State, Room}
-use Rattle.voice.specs.Bits.{bit, signed}
-use Rattle.voice.specs.Channel.{withLive, liveAt}
-use Rattle.voice.specs.ChannelEnum.{voiceOf, voiceWrite, autoStop, frequencyStep, envelopeOn, sweepOn, heard, waveInRange, sweptInRange, noiseInRange}
-use Rattle.voice.specs.Constants.{frameTick}
-use Rattle.voice.specs.SweepModulate.{stopped}
-use Rattle.voice.specs.declared.channel.Channel.{Channel}
-use Rattle.voice.specs.declared.channel.Live.{Live}
+use Rattle.common.specs.Bits.{bit, signed}
+use Rattle.common.specs.Channel.{stopped}
+use Rattle.voice.specs.ChannelEnum.{voiceOf, voiceWrite, stepAutoStop, stepFrequency, stepEnvelope, stepSweep, heard, waveInRange, sweptInRange, noiseInRange}
+use Rattle.common.specs.declared.channel.Channel.{Channel}
+use Rattle.common.specs.declared.channel.Live.{Live}
 use Rattle.voice.specs.declared.channel_enum.Kind.the-variants.{Wave, Swept, Noise}
 use Rattle.voice.specs.declared.channel_enum.Voice.{Voice}
+use Rattle.vsu.specs.Constants.{frameTick}
 use Rattle.vsu.specs.declared.core.Frame.{Frame}
 use Rattle.vsu.specs.declared.core.Moved.{Moved}
 use Rattle.vsu.specs.declared.core.Ran.{Ran}
@@ -130,18 +129,18 @@ write a b u = writeTo (decodeOf a) b u
 
 -- step 4 is channel 5's alone
 unfoldable pub sweepFifth : List ℤ → List Voice → List Voice
-sweepFifth m vs = set vs 4 (sweepOn m (voiceAt 4 vs))
+sweepFifth m vs = set vs 4 (stepSweep m (voiceAt 4 vs))
 
 -- steps 1 to 4
 unfoldable pub voicesAfter : List ℤ → List Voice → List Voice
-voicesAfter m vs = sweepFifth m (map envelopeOn (map frequencyStep (map autoStop vs)))
+voicesAfter m vs = sweepFifth m (map stepEnvelope (map stepFrequency (map stepAutoStop vs)))
 
 -- "5. Output counter +1; at 480 it becomes 0 and one frame is made."
-abbrev pub frameDue : Vsu → Bool
-frameDue u = leb frameTick (u .output + 1)
+abbrev pub makesFrame : Vsu → Bool
+makesFrame u = leb frameTick (u .output + 1)
 
 unfoldable pub cycle : Vsu → Vsu
-cycle u = withVoices (withOutput u (cond (frameDue u) 0 (u .output + 1))) (voicesAfter (u .modulation) (u .voices))
+cycle u = withVoices (withOutput u (cond (makesFrame u) 0 (u .output + 1))) (voicesAfter (u .modulation) (u .voices))
 
 -- The frame.
 
@@ -160,20 +159,20 @@ unfoldable pub sumsOf : List ℕ → List Voice → Sums
 sumsOf waves vs = record { left = total (map (heardLeft waves) vs); right = total (map (heardRight waves) vs) }
 
 -- "cut to a multiple of 8, times 4"
-abbrev pub cut : ℕ → ℤ
-cut sum = pos (sum / 8 * 8 * 4)
+abbrev pub frameSide : ℕ → ℤ
+frameSide sum = pos (sum / 8 * 8 * 4)
 
 unfoldable pub frameOf : List ℕ → List Voice → Frame
-frameOf waves vs = record { left = cut (sumsOf waves vs .left); right = cut (sumsOf waves vs .right) }
+frameOf waves vs = record { left = frameSide (sumsOf waves vs .left); right = frameSide (sumsOf waves vs .right) }
 
 -- sums of which the frame's sides fit 16 bits: those of six voices in range come to 5,478 at most
-pub record Quiet (s : Sums) : Type 0 where
+pub record SmallSums (s : Sums) : Type 0 where
   pub left : s .left ≤ 5478
   pub right : s .right ≤ 5478
 
 -- the frame that the cycle from u makes, where it makes one
 unfoldable pub made : Vsu → List Frame
-made u = cond (frameDue u) (frameOf (u .waves) (cycle u .voices) ∷ []) []
+made u = cond (makesFrame u) (frameOf (u .waves) (cycle u .voices) ∷ []) []
 
 -- Runs.
 
@@ -218,7 +217,11 @@ shaped u = eqb (length (u .voices)) 6 && eqb (length (u .waves)) 160 && eqb (len
 unfoldable pub inRange : Vsu → Bool
 inRange u = shaped u && (voicesInRange (u .voices) && leb (u .output) 479 && allAtMost 63 (u .waves))
 
--- "Unit calls: 1, then 2. A refused call hands back the given state, counts 0, and writes nothing."
+-- "Unit calls: 1, then 2"; "A refused call hands back the given record or state, counts 0, and writes nothing".
+
+-- 01's number of the refusal; 0 where the call is accepted
+unfoldable pub movedNumber : Vsu → ℕ
+movedNumber u = cond (inRange u) 0 1
 
 -- 1, or the state t that the call comes to
 unfoldable pub moved : Vsu → Vsu → Moved
@@ -230,9 +233,12 @@ writeAnswer a b u = moved u (write a b u)
 abbrev pub advanceAnswer : ℕ → Vsu → Moved
 advanceAnswer n u = moved u (run n u)
 
--- "frames due exceed half the buffer's length (cut)"
+-- refusal 2 is given exactly when "frames due exceed half the buffer's length (cut)": when this does not hold
 abbrev pub fitsIn : ℕ → Vsu → ℕ → Bool
 fitsIn n u room = leb (framesDue u n) (room / 2)
+
+unfoldable pub runNumber : ℕ → Vsu → ℕ → ℕ
+runNumber n u room = cond (inRange u) (cond (fitsIn n u room) 0 2) 1
 
 unfoldable pub runAnswer : ℕ → Vsu → ℕ → Ran
 runAnswer n u room =

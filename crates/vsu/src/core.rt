@@ -1,24 +1,25 @@
 // The unit: the Rust's `VSU`.
+use crate::constants::SOUND_SAMPLE_RATE_CYCLE_COUNT;
+use common::bits;
+use common::channel;
+use common::channel::Channel;
+use common::channel::Envelope;
+use common::channel::Live;
+use common::channel::Pitch;
 use refusal::Answer;
 use refusal::Refusal;
-use voice::bits;
-use voice::channel;
-use voice::channel::Channel;
-use voice::channel::Envelope;
-use voice::channel::Live;
-use voice::channel::Pitch;
 use voice::channel_enum;
 use voice::channel_enum::Kind;
 use voice::channel_enum::Voice;
-use voice::constants::SOUND_SAMPLE_RATE_CYCLE_COUNT;
 use voice::sweep_modulate::SweepModulate;
 ghost use mathlib.Core.Path.{_≡_};
 ghost use mathlib.Core.Bool.{true};
 ghost use mathlib.Core.List.{_++_, map};
 ghost use Prim.Native.Nat.{_*_, _<_, _≤_};
 ghost use lib.ListN.{getD, length, drop};
-ghost use Rattle.voice.specs.ChannelEnum.{autoStop, frequencyStep, envelopeOn};
-ghost use Rattle.vsu.specs.Core.{offChannel, offSwept, powerOn, decodeOf, anyPlays, stop, writeTo, write, sweepFifth, voicesAfter, sumsOf, Quiet, frameOf, run, frames, framesDue, sides, allAtMost, voicesInRange, inRange, writeAnswer, advanceAnswer, runAnswer, runOut};
+ghost use Rattle.refusal.specs.Refusal.{answerNumber};
+ghost use Rattle.voice.specs.ChannelEnum.{stepAutoStop, stepFrequency, stepEnvelope};
+ghost use Rattle.vsu.specs.Core.{offChannel, offSwept, powerOn, decodeOf, anyPlays, stop, writeTo, write, sweepFifth, voicesAfter, sumsOf, SmallSums, frameOf, run, frames, framesDue, sides, allAtMost, voicesInRange, inRange, writeAnswer, advanceAnswer, movedNumber, runAnswer, runNumber, runOut};
 
 pub struct Vsu {
     pub voices: [Voice; 6],
@@ -215,7 +216,7 @@ fn write_wave(u: Vsu, at: usize, value: u8) -> Vsu
     }
     let mut t = u;
     if at < 160 {
-        t.waves[at] = bits::sample(value);
+        t.waves[at] = bits::field(value, 0, 6);
     }
     t
 }
@@ -252,7 +253,7 @@ fn write_stop(u: Vsu, value: u8) -> Vsu
     ensures { λ r. ⌜ r ≡ writeTo Register.Stop value u ⌝ }
 {
     let mut t = u;
-    if bits::lowest(value) {
+    if bits::flag(value, 0) {
         let voices = u.voices;
         let silent = stop_all(voices);
         t.voices = silent;
@@ -261,7 +262,7 @@ fn write_stop(u: Vsu, value: u8) -> Vsu
 }
 
 // A register write to any state.
-pub fn set_u8(u: Vsu, address: u32, value: u8) -> Vsu
+fn set_u8(u: Vsu, address: u32, value: u8) -> Vsu
     ensures { λ r. ⌜ r ≡ write address value u ⌝ }
 {
     let r = decode(address);
@@ -276,7 +277,7 @@ pub fn set_u8(u: Vsu, address: u32, value: u8) -> Vsu
 
 // Step 1 of a cycle, for all six.
 fn step_auto_deactivate(voices: [Voice; 6]) -> [Voice; 6]
-    ensures { λ r. ⌜ r ≡ map autoStop voices ⌝ }
+    ensures { λ r. ⌜ r ≡ map stepAutoStop voices ⌝ }
 {
     let mut out = voices;
     let mut i = 0;
@@ -290,7 +291,7 @@ fn step_auto_deactivate(voices: [Voice; 6]) -> [Voice; 6]
 
 // Step 2.
 fn step_sampling_frequency(voices: [Voice; 6]) -> [Voice; 6]
-    ensures { λ r. ⌜ r ≡ map frequencyStep voices ⌝ }
+    ensures { λ r. ⌜ r ≡ map stepFrequency voices ⌝ }
 {
     let mut out = voices;
     let mut i = 0;
@@ -304,7 +305,7 @@ fn step_sampling_frequency(voices: [Voice; 6]) -> [Voice; 6]
 
 // Step 3.
 fn step_envelope(voices: [Voice; 6]) -> [Voice; 6]
-    ensures { λ r. ⌜ r ≡ map envelopeOn voices ⌝ }
+    ensures { λ r. ⌜ r ≡ map stepEnvelope voices ⌝ }
 {
     let mut out = voices;
     let mut i = 0;
@@ -339,7 +340,7 @@ fn cycle(voices: [Voice; 6], modulation: &[i8; 32]) -> [Voice; 6]
 
 // What six voices add to each side. Its caller has shown that they are in range, so that the sums are small.
 fn mix(voices: [Voice; 6], waves: &[u8; 160]) -> Sums
-    requires { ⌜ Quiet (sumsOf (now waves) voices) ⌝ }
+    requires { ⌜ SmallSums (sumsOf (now waves) voices) ⌝ }
     ensures { λ r. ⌜ r ≡ sumsOf (now (waves .entry)) voices ⌝ }
 {
     let mut left = 0;
@@ -359,7 +360,7 @@ fn mix(voices: [Voice; 6], waves: &[u8; 160]) -> Sums
 
 // The frame of six voices, under the same condition: each side fits an i16.
 fn sample(voices: [Voice; 6], waves: &[u8; 160]) -> Frame
-    requires { ⌜ Quiet (sumsOf (now waves) voices) ⌝ }
+    requires { ⌜ SmallSums (sumsOf (now waves) voices) ⌝ }
     ensures { λ r. ⌜ r ≡ frameOf (now (waves .entry)) voices ⌝ }
 {
     let s = mix(voices, waves);
@@ -412,6 +413,7 @@ pub fn in_range(u: Vsu) -> bool
 // A register write.
 pub fn write(u: Vsu, address: u32, value: u8) -> Moved
     ensures { λ r. ⌜ r ≡ writeAnswer address value u ⌝ }
+    ensures { λ r. ⌜ answerNumber (r .answer) ≡ movedNumber u ⌝ }
 {
     if in_range(u) {
         return Moved {
@@ -425,48 +427,8 @@ pub fn write(u: Vsu, address: u32, value: u8) -> Moved
     }
 }
 
-// n cycles without frames, from any state.
-pub fn skip(u: Vsu, n: u32) -> Vsu
-    ensures { λ r. ⌜ r ≡ run n u ⌝ }
-{
-    let modulation = u.modulation;
-    let mut voices = u.voices;
-    let mut output = u.output;
-    let mut i = 0;
-    while i < n {
-        let next = cycle(voices, &modulation);
-        voices = next;
-        i += 1;
-        if output < SOUND_SAMPLE_RATE_CYCLE_COUNT - 1 {
-            output += 1;
-        } else {
-            output = 0;
-        }
-    }
-    let mut t = u;
-    t.voices = voices;
-    t.output = output;
-    t
-}
-
-// n cycles without frames.
-pub fn advance(u: Vsu, n: u32) -> Moved
-    ensures { λ r. ⌜ r ≡ advanceAnswer n u ⌝ }
-{
-    if in_range(u) {
-        return Moved {
-            state: skip(u, n),
-            answer: Answer::Accepted,
-        };
-    }
-    Moved {
-        state: u,
-        answer: Answer::Refused(Refusal::State),
-    }
-}
-
 // n cycles, whose frames fill the front of `out`. For callers that have made the two checks of `run`.
-pub fn step(u: Vsu, n: u32, out: &mut [i16]) -> Vsu
+fn step(u: Vsu, n: u32, out: &mut [i16]) -> Vsu
     requires { ⌜ (inRange u ≡ true) × (framesDue u n * 2 ≤ length (now out)) ⌝ }
     ensures { λ r. ⌜ (r ≡ run n u) × (now (out .exit) ≡ sides (frames n u) ++ drop (framesDue u n * 2) (now (out .entry))) ⌝ }
 {
@@ -498,9 +460,52 @@ pub fn step(u: Vsu, n: u32, out: &mut [i16]) -> Vsu
     t
 }
 
+// How many cycles of `left` go into one call of `step` with room for 64 frames.
+fn part_of(left: u32) -> u32
+    ensures { λ r. ⌜ (r ≤ left) × (r ≤ 30240) × (0 < left → 0 < r) ⌝ }
+{
+    if left < 30_240 { left } else { 30_240 }
+}
+
+// n cycles without frames, for callers that have checked the range: `step` into a buffer that is thrown away. With a loop of its own
+// here, `cycle` has two callers and is no longer compiled into either, and a cycle costs ten times as much (docs/PERFORMANCE.md).
+fn skip(u: Vsu, n: u32) -> Vsu
+    requires { ⌜ inRange u ≡ true ⌝ }
+    ensures { λ r. ⌜ r ≡ run n u ⌝ }
+{
+    let mut thrown = [0i16; 128];
+    let mut t = u;
+    let mut i = 0;
+    while i < n {
+        let part = part_of(n - i);
+        let next = step(t, part, &mut thrown);
+        t = next;
+        i += part;
+    }
+    t
+}
+
+// n cycles without frames.
+pub fn advance(u: Vsu, n: u32) -> Moved
+    ensures { λ r. ⌜ r ≡ advanceAnswer n u ⌝ }
+    ensures { λ r. ⌜ answerNumber (r .answer) ≡ movedNumber u ⌝ }
+{
+    if in_range(u) {
+        return Moved {
+            state: skip(u, n),
+            answer: Answer::Accepted,
+        };
+    }
+    Moved {
+        state: u,
+        answer: Answer::Refused(Refusal::State),
+    }
+}
+
 // n cycles, whose frames fill the front of `out`.
 pub fn run(u: Vsu, n: u32, out: &mut [i16]) -> Ran
     ensures { λ r. ⌜ r ≡ runAnswer n u (length (now (out .entry))) ⌝ }
+    ensures { λ r. ⌜ answerNumber (r .answer) ≡ runNumber n u (length (now (out .entry))) ⌝ }
     ensures { λ r. ⌜ now (out .exit) ≡ runOut n u (now (out .entry)) ⌝ }
 {
     if !in_range(u) {

@@ -1,6 +1,6 @@
 use mathlib.Core.Bool.{and-false}
 use borrow.Author.Needs.{needs}
-use Rattle.voice.specs.ChannelEnum.{noiseInRange, noiseKind}
+use Rattle.voice.specs.ChannelEnum.{noiseInRange, noiseKindInRange}
 use Rattle.voice.proofs.channel_enum.noise_in_range.Statement.{statement}
 use Rattle.voice.proofs.channel_enum.noise_in_range.Tie as tie
 
@@ -20,15 +20,15 @@ is-tap-requires : tie.Need-is-tap-requires
 is-tap-requires c κs = search needs
 
 returns : tie.Need-returns
-unfolding noiseInRange noiseKind
+unfolding noiseInRange noiseKindInRange
 returns c = rw (c .enum-told .given .1, and-false)
 
 returns-2 : tie.Need-returns-2
-unfolding noiseInRange noiseKind
+unfolding noiseInRange noiseKindInRange
 returns-2 c = rw (c .enum-told2 .given .1, and-false)
 
 returns-3 : tie.Need-returns-3
-unfolding noiseInRange noiseKind
+unfolding noiseInRange noiseKindInRange
 returns-3 c = rw (c .before .before .before .k .given .1, c .before .in-range .ensures, c .is-tap .ensures)
 
 pub noise-in-range-spec : {M : Type 1} → statement M

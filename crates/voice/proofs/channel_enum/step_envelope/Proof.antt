@@ -1,5 +1,5 @@
 use borrow.Author.Needs.{needs}
-use Rattle.voice.specs.ChannelEnum.{envelopeOn}
+use Rattle.voice.specs.ChannelEnum.{stepEnvelope}
 use Rattle.voice.proofs.channel_enum.step_envelope.Statement.{statement}
 use Rattle.voice.proofs.channel_enum.step_envelope.Tie as tie
 
@@ -7,7 +7,7 @@ envelope-step-requires : tie.Need-envelope-step-requires
 envelope-step-requires c κs = search needs
 
 returns : tie.Need-returns
-unfolding envelopeOn
+unfolding stepEnvelope
 returns c = rw (c .envelope-step .ensures)
 
 pub step-envelope-spec : {M : Type 1} → statement M

@@ -1,5 +1,5 @@
 use borrow.Author.Needs.{needs}
-use Rattle.voice.specs.ChannelEnum.{sweepOf}
+use Rattle.voice.specs.ChannelEnum.{stepSweepOf}
 use Rattle.voice.proofs.channel_enum.step_sweep_modulate.Statement.{statement}
 use Rattle.voice.proofs.channel_enum.step_sweep_modulate.Tie as tie
 
@@ -16,15 +16,15 @@ enum-told-2 : tie.Need-enum-told-2
 enum-told-2 c = search needs
 
 returns : tie.Need-returns
-unfolding sweepOf
+unfolding stepSweepOf
 returns c = rw (c .enum-told .given .1, ← c .enum-told .given .1)
 
 returns-2 : tie.Need-returns-2
-unfolding sweepOf
+unfolding stepSweepOf
 returns-2 c = rw (c .before .before .before .before .before .kind .given .1, c .before .before .sweep-step .ensures)
 
 returns-3 : tie.Need-returns-3
-unfolding sweepOf
+unfolding stepSweepOf
 returns-3 c = rw (c .enum-told2 .given .1, ← c .enum-told2 .given .1)
 
 pub step-sweep-modulate-spec : {M : Type 1} → statement M

@@ -1,6 +1,6 @@
 use mathlib.Core.Bool.{and-false}
 use borrow.Author.Needs.{needs}
-use Rattle.voice.specs.ChannelEnum.{sweptInRange, sweptKind}
+use Rattle.voice.specs.ChannelEnum.{sweptInRange, sweptKindInRange}
 use Rattle.voice.proofs.channel_enum.swept_in_range.Statement.{statement}
 use Rattle.voice.proofs.channel_enum.swept_in_range.Tie as tie
 
@@ -20,15 +20,15 @@ enum-told-2 : tie.Need-enum-told-2
 enum-told-2 c = search needs
 
 returns : tie.Need-returns
-unfolding sweptInRange sweptKind
+unfolding sweptInRange sweptKindInRange
 returns c = rw (c .enum-told .given .1, and-false)
 
 returns-2 : tie.Need-returns-2
-unfolding sweptInRange sweptKind
+unfolding sweptInRange sweptKindInRange
 returns-2 c = rw (c .before .before .before .k .given .1, c .before .in-range .ensures, c .in-range2 .ensures)
 
 returns-3 : tie.Need-returns-3
-unfolding sweptInRange sweptKind
+unfolding sweptInRange sweptKindInRange
 returns-3 c = rw (c .enum-told2 .given .1, and-false)
 
 pub swept-in-range-spec : {M : Type 1} → statement M

@@ -1,6 +1,6 @@
 use mathlib.Core.Bool.{and-false}
 use borrow.Author.Needs.{needs}
-use Rattle.voice.specs.ChannelEnum.{waveInRange, waveKind}
+use Rattle.voice.specs.ChannelEnum.{waveInRange, waveKindInRange}
 use Rattle.voice.proofs.channel_enum.wave_in_range.Statement.{statement}
 use Rattle.voice.proofs.channel_enum.wave_in_range.Tie as tie
 
@@ -17,15 +17,15 @@ enum-told-2 : tie.Need-enum-told-2
 enum-told-2 c = search needs
 
 returns : tie.Need-returns
-unfolding waveInRange waveKind
+unfolding waveInRange waveKindInRange
 returns c = rw (c .before .before .k .given .1, c .in-range .ensures)
 
 returns-2 : tie.Need-returns-2
-unfolding waveInRange waveKind
+unfolding waveInRange waveKindInRange
 returns-2 c = rw (c .enum-told .given .1, and-false)
 
 returns-3 : tie.Need-returns-3
-unfolding waveInRange waveKind
+unfolding waveInRange waveKindInRange
 returns-3 c = rw (c .enum-told2 .given .1, and-false)
 
 pub wave-in-range-spec : {M : Type 1} → statement M

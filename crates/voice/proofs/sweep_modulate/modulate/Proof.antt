@@ -1,7 +1,7 @@
 use mathlib.Core.Path.{_≡_}
 use native.Mathlib.Omega.{arith}
 use borrow.Author.Needs.{needs}
-use Rattle.voice.specs.Bits.{lifted}
+use Rattle.common.specs.Bits.{lifted}
 use Rattle.voice.proofs.SweepModulateLaws as laws
 use Rattle.voice.proofs.sweep_modulate.modulate.Statement.{statement}
 use Rattle.voice.proofs.sweep_modulate.modulate.Tie as tie

@@ -6,32 +6,24 @@ use denote.Ref.{now}
 use borrow.Author.Needs.{needs}
 use Rattle.voice.proofs.waveform.get_indexed.Statement.{statement}
 use Rattle.voice.proofs.waveform.get_indexed.Tie as tie
-use Rattle.voice.proofs.waveform.get_indexed.Reads as reads
-use Rattle.voice.proofs.waveform.get_indexed.Lts as lts
 
--- src/waveform.rt:8:9
 returns : tie.Need-returns
 unfolding sampleAt
 returns c = rw (lt-ltb 4 _ (c .if1 .taken)) refl
 
--- src/waveform.rt:10:14
 mul-at : tie.Need-mul-at
 mul-at c = search needs
 
--- src/waveform.rt:10:14
 add-at : tie.Need-add-at
 add-at c = search needs
 
--- src/waveform.rt:12:29
 shared-slice-read-result : tie.Need-shared-slice-read-result
 shared-slice-read-result c = search needs
 
--- src/waveform.rt:4:1
 returns-2 : tie.Need-returns-2
 unfolding sampleAt
 returns-2 c = rw (le-ltb 4 _ (c .before .before .before .if1 .left)) refl
 
--- src/waveform.rt:4:1
 returns-3 : tie.Need-returns-3
 unfolding sampleAt
 returns-3 c = rw (le-ltb 4 _ (c .before .before .if1 .left)) (sym (List·getD-eq-default (now (c .before .before .before .args .waves)) 0 (c .if2 .left)))

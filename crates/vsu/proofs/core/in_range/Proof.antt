@@ -6,20 +6,13 @@ use Rattle.vsu.specs.Core.{allBytes}
 use borrow.Author.Needs.{needs}
 use Rattle.vsu.proofs.core.in_range.Statement.{statement}
 use Rattle.vsu.proofs.core.in_range.Tie as tie
-use Rattle.vsu.proofs.core.in_range.Reads as reads
-use Rattle.vsu.proofs.core.in_range.Lts as lts
-use Rattle.vsu.proofs.core.samples_in_range.Reads as samples-in-range-reads
-use Rattle.vsu.proofs.core.voices_in_range.Reads as voices-in-range-reads
 
--- src/core.rt:375:5
 voices-in-range-requires : tie.Need-voices-in-range-requires
 voices-in-range-requires c κs = search needs
 
--- src/core.rt:375:51
 samples-in-range-requires : tie.Need-samples-in-range-requires
 samples-in-range-requires c κs = search needs
 
--- src/core.rt:370:1
 returns : tie.Need-returns
 returns c = let u = (c .before .before .before .before .before .before .args .u) in
     let six : length (u .voices) ≡ 6 = search (needs, laws.length-told) in

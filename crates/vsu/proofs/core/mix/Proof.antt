@@ -10,9 +10,6 @@ use Rattle.vsu.specs.Core.{total, heardLeft, heardRight}
 use Rattle.vsu.proofs.CoreLaws as laws
 use Rattle.vsu.proofs.core.mix.Statement.{statement}
 use Rattle.vsu.proofs.core.mix.Tie as tie
-use Rattle.vsu.proofs.core.mix.Reads as reads
-use Rattle.vsu.proofs.core.mix.Lts as lts
-use Rattle.voice.proofs.channel_enum.sample.Reads as sample-reads
 
 abbrev Inv-loop : tie.InvT-loop
 Inv-loop waves voices left₀ right₀ i₀ left right i =
@@ -21,49 +18,38 @@ Inv-loop waves voices left₀ right₀ i₀ left right i =
 abbrev μ-loop : tie.MeasureT-loop
 μ-loop waves voices left₀ right₀ i₀ left right i = 6 - i
 
--- src/core.rt:317:5
 loop-holds : tie.Need-loop-holds Inv-loop μ-loop
 loop-holds c = (search needs, refl, refl)
 
--- src/core.rt:318:17
 mul-v : tie.Need-mul-v Inv-loop μ-loop
 mul-v c = search needs
 
--- src/core.rt:318:17
 array-copy-out-v : tie.Need-array-copy-out-v Inv-loop μ-loop
 array-copy-out-v c = search needs
 
--- src/core.rt:319:17
 sample-requires : tie.Need-sample-requires Inv-loop μ-loop
 sample-requires c κs = search needs
 
--- src/core.rt:319:9
 add-left : tie.Need-add-left Inv-loop μ-loop
 unfolding sumsOf
 add-left c = let six : length ((c .before .before .before .before .args .t1)) ≡ 6 = search needs in record { fits = omega (arith, laws.sum-more (heardLeft (now (c .before .before .before .before .args .waves))) (c .before .before .before .before .args .t1) (c .before .before .before .loop .i) _ (omega arith) ((c .before .before .before .loop .inv) .1) (c .sample .ensures), laws.total-take (map (heardLeft (now (c .before .before .before .before .args .waves))) (c .before .before .before .before .args .t1)) ((c .before .before .before .loop .i) + 1), (c .before .before .before .before .pre .left)) }
 
--- src/core.rt:320:18
 sample-requires-2 : tie.Need-sample-requires-2 Inv-loop μ-loop
 sample-requires-2 c κs = search needs
 
--- src/core.rt:320:9
 add-right : tie.Need-add-right Inv-loop μ-loop
 unfolding sumsOf
 add-right c = let six : length ((c .before .before .before .before .before .args .t1)) ≡ 6 = search needs in record { fits = omega (arith, laws.sum-more (heardRight (now (c .before .before .before .before .before .args .waves))) (c .before .before .before .before .before .args .t1) (c .before .before .before .before .loop .i) _ (omega arith) ((c .before .before .before .before .loop .inv) .2) (c .sample2 .ensures), laws.total-take (map (heardRight (now (c .before .before .before .before .before .args .waves))) (c .before .before .before .before .before .args .t1)) ((c .before .before .before .before .loop .i) + 1), (c .before .before .before .before .before .pre .right)) }
 
--- src/core.rt:321:9
 add-i : tie.Need-add-i Inv-loop μ-loop
 add-i c = search needs
 
--- src/core.rt:317:5
 loop-less : tie.Need-loop-less Inv-loop μ-loop
 loop-less c = search needs
 
--- src/core.rt:317:5
 loop-again : tie.Need-loop-again Inv-loop μ-loop
 loop-again c = let six : length ((c .before .before .before .before .before .args .t1)) ≡ 6 = search needs in (search needs, laws.sum-more (heardLeft (now (c .before .before .before .before .before .args .waves))) (c .before .before .before .before .before .args .t1) (c .before .before .before .before .loop .i) _ (omega arith) ((c .before .before .before .before .loop .inv) .1) (c .before .sample .ensures), laws.sum-more (heardRight (now (c .before .before .before .before .before .args .waves))) (c .before .before .before .before .before .args .t1) (c .before .before .before .before .loop .i) _ (omega arith) ((c .before .before .before .before .loop .inv) .2) (c .sample2 .ensures))
 
--- src/core.rt:311:1
 returns : tie.Need-returns Inv-loop μ-loop
 unfolding sumsOf
 returns c = let six : length ((c .before .before .args .t1)) ≡ 6 = search needs in rw (laws.sum-all (heardLeft (now (c .before .before .args .waves))) (c .before .before .args .t1) (c .before .loop .i) (omega arith) ((c .before .loop .inv) .1), laws.sum-all (heardRight (now (c .before .before .args .waves))) (c .before .before .args .t1) (c .before .loop .i) (omega arith) ((c .before .loop .inv) .2)) refl

@@ -3,20 +3,13 @@ use Rattle.vsu.specs.Core.{powerOn}
 use borrow.Author.Needs.{needs}
 use Rattle.vsu.proofs.core.new.Statement.{statement}
 use Rattle.vsu.proofs.core.new.Tie as tie
-use Rattle.vsu.proofs.core.new.Reads as reads
-use Rattle.vsu.proofs.core.new.Lts as lts
-use Rattle.vsu.proofs.core.new_channel.Reads as new-channel-reads
-use Rattle.vsu.proofs.core.new_pcm_ch5.Reads as new-pcm-ch5-reads
 
--- src/core.rt:130:9
 new-channel-requires : tie.Need-new-channel-requires
 new-channel-requires c κs = search needs
 
--- src/core.rt:138:9
 new-pcm-ch5-requires : tie.Need-new-pcm-ch5-requires
 new-pcm-ch5-requires c κs = search needs
 
--- src/core.rt:127:1
 returns : tie.Need-returns
 unfolding powerOn
 returns c = rw ((c .new-pcm-ch5 .ensures), (c .before .new-channel .ensures)) refl

@@ -7,8 +7,6 @@ use Rattle.vsu.proofs.CoreLaws as laws
 use Rattle.vsu.specs.Core.{anyPlays}
 use Rattle.vsu.proofs.core.playback_occuring.Statement.{statement}
 use Rattle.vsu.proofs.core.playback_occuring.Tie as tie
-use Rattle.vsu.proofs.core.playback_occuring.Reads as reads
-use Rattle.vsu.proofs.core.playback_occuring.Lts as lts
 
 abbrev Inv-loop : tie.InvT-loop
 Inv-loop voices i₀ i = (i ≤ 6) × (anyPlays voices ≡ anyPlays (drop i voices))
@@ -16,35 +14,27 @@ Inv-loop voices i₀ i = (i ≤ 6) × (anyPlays voices ≡ anyPlays (drop i voic
 abbrev μ-loop : tie.MeasureT-loop
 μ-loop voices i₀ i = 6 - i
 
--- src/core.rt:174:5
 loop-holds : tie.Need-loop-holds Inv-loop μ-loop
 loop-holds c = (search needs, refl)
 
--- src/core.rt:175:17
 mul-v : tie.Need-mul-v Inv-loop μ-loop
 mul-v c = search needs
 
--- src/core.rt:175:17
 array-copy-out-v : tie.Need-array-copy-out-v Inv-loop μ-loop
 array-copy-out-v c = search needs
 
--- src/core.rt:177:13
 returns : tie.Need-returns Inv-loop μ-loop
 returns c = let six : length ((c .before .before .before .before .args .t1)) ≡ 6 = search needs in laws.plays-here _ _ _ (omega arith) (c .if1 .taken) ((c .before .before .before .loop .inv) .1)
 
--- src/core.rt:179:9
 add-i : tie.Need-add-i Inv-loop μ-loop
 add-i c = search needs
 
--- src/core.rt:174:5
 loop-less : tie.Need-loop-less Inv-loop μ-loop
 loop-less c = search needs
 
--- src/core.rt:174:5
 loop-again : tie.Need-loop-again Inv-loop μ-loop
 loop-again c = let six : length ((c .before .before .before .before .args .t1)) ≡ 6 = search needs in (search needs, laws.plays-later _ _ _ (omega arith) (c .if1 .left) ((c .before .before .before .loop .inv) .1))
 
--- src/core.rt:170:1
 returns-2 : tie.Need-returns-2 Inv-loop μ-loop
 returns-2 c = let six : length ((c .before .before .args .t1)) ≡ 6 = search needs in laws.plays-nowhere (c .before .before .args .t1) (c .before .loop .i) (omega arith) ((c .before .loop .inv) .1)
 

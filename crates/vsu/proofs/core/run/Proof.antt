@@ -5,44 +5,31 @@ use mathlib.Core.Path.{sym, _∙_}
 use borrow.Author.Needs.{needs}
 use Rattle.vsu.proofs.core.run.Statement.{statement}
 use Rattle.vsu.proofs.core.run.Tie as tie
-use Rattle.vsu.proofs.core.run.Reads as reads
-use Rattle.vsu.proofs.core.run.Lts as lts
-use Rattle.vsu.proofs.core.in_range.Reads as in-range-reads
-use Rattle.vsu.proofs.core.step.Reads as step-reads
 
--- src/core.rt:484:9
 in-range-requires : tie.Need-in-range-requires
 in-range-requires c κs = search needs
 
--- src/core.rt:485:9
 returns : tie.Need-returns
 returns c = laws.run-refused _ (c .before .in-range .ensures) _ _ (not-true _ (c .if1 .taken))
 
--- src/core.rt:487:17
 cast-due : tie.Need-cast-due
 cast-due c = search needs
 
--- src/core.rt:487:16
 add-due : tie.Need-add-due
 add-due c = search needs
 
--- src/core.rt:489:9
 returns-2 : tie.Need-returns-2
 returns-2 c = laws.run-crowded _ (c .before .before .before .in-range .ensures) _ _ (not-false _ (c .before .before .if1 .left)) (c .if2 .taken)
 
--- src/core.rt:491:18
 step-requires : tie.Need-step-requires
 step-requires c κs = (sym (c .before .before .before .before .in-range .ensures) ∙ not-false _ (c .before .before .before .if1 .left), omega (arith, c .before .if2 .left))
 
--- src/core.rt:491:43
 cast-t19 : tie.Need-cast-t19
 cast-t19 c = search needs
 
--- src/core.rt:480:1
 same-length : tie.Need-same-length
 same-length c = search needs
 
--- src/core.rt:480:1
 returns-3 : tie.Need-returns-3
 returns-3 c = laws.run-made _ (c .before .before .before .before .before .before .in-range .ensures) _ _ (not-false _ (c .before .before .before .before .before .if1 .left)) (c .before .before .before .if2 .left) ((c .before .step .ensures .0)) ((c .before .step .ensures .1))
 

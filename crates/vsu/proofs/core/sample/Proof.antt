@@ -7,31 +7,22 @@ use Prim.Native.Nat.{ℕ, _≤_}
 use borrow.Author.Needs.{needs}
 use Rattle.vsu.proofs.core.sample.Statement.{statement}
 use Rattle.vsu.proofs.core.sample.Tie as tie
-use Rattle.vsu.proofs.core.sample.Reads as reads
-use Rattle.vsu.proofs.core.sample.Lts as lts
-use Rattle.vsu.proofs.core.mix.Reads as mix-reads
 
--- src/core.rt:331:9
 mix-requires : tie.Need-mix-requires
 mix-requires c κs = search needs
 
--- src/core.rt:333:16
 mul-t5 : tie.Need-mul-t5
 mul-t5 c = omega (arith, rw (← (c .before .mix .ensures)) at (c .before .before .pre .left))
 
--- src/core.rt:333:15
 cast-t6 : tie.Need-cast-t6
 cast-t6 c = record { sfits = omega (arith, rw (← (c .before .mix .ensures)) at (c .before .before .pre .left)) }
 
--- src/core.rt:334:17
 mul-t8 : tie.Need-mul-t8
 mul-t8 c = omega (arith, rw (← (c .before .before .mix .ensures)) at (c .before .before .before .pre .right))
 
--- src/core.rt:334:16
 cast-t9 : tie.Need-cast-t9
 cast-t9 c = record { sfits = omega (arith, rw (← (c .before .before .mix .ensures)) at (c .before .before .before .pre .right)) }
 
--- src/core.rt:327:1
 returns : tie.Need-returns
 unfolding frameOf
 returns c = rw (laws.frame-side (rw (← (c .before .before .mix .ensures)) at (c .before .before .before .pre .left)), laws.frame-side (rw (← (c .before .before .mix .ensures)) at (c .before .before .before .pre .right)), (c .before .before .mix .ensures)) refl

@@ -7,8 +7,6 @@ use Rattle.vsu.proofs.CoreLaws as laws
 use Rattle.vsu.specs.Core.{allAtMost}
 use Rattle.vsu.proofs.core.samples_in_range.Statement.{statement}
 use Rattle.vsu.proofs.core.samples_in_range.Tie as tie
-use Rattle.vsu.proofs.core.samples_in_range.Reads as reads
-use Rattle.vsu.proofs.core.samples_in_range.Lts as lts
 
 abbrev Inv-loop : tie.InvT-loop
 Inv-loop waves samples i₀ i = (i ≤ length samples) × (samples ≡ waves) × (allAtMost 63 waves ≡ allAtMost 63 (drop i waves))
@@ -16,31 +14,24 @@ Inv-loop waves samples i₀ i = (i ≤ length samples) × (samples ≡ waves) ×
 abbrev μ-loop : tie.MeasureT-loop
 μ-loop waves samples i₀ i = length samples - i
 
--- src/core.rt:360:5
 loop-holds : tie.Need-loop-holds Inv-loop μ-loop
 loop-holds c = (search needs, refl, refl)
 
--- src/core.rt:361:12
 shared-slice-read-if1 : tie.Need-shared-slice-read-if1 Inv-loop μ-loop
 shared-slice-read-if1 c = search needs
 
--- src/core.rt:362:13
 returns : tie.Need-returns Inv-loop μ-loop
 returns c = laws.above-here _ _ _ (c .before .before .loop-test .taken) (c .if1 .taken) ((c .before .before .before .loop .inv) .2)
 
--- src/core.rt:364:9
 add-i : tie.Need-add-i Inv-loop μ-loop
 add-i c = search needs
 
--- src/core.rt:360:5
 loop-less : tie.Need-loop-less Inv-loop μ-loop
 loop-less c = search needs
 
--- src/core.rt:360:5
 loop-again : tie.Need-loop-again Inv-loop μ-loop
 loop-again c = (search needs, refl, laws.small-here _ _ _ (c .before .before .loop-test .taken) (c .if1 .left) ((c .before .before .before .loop .inv) .2))
 
--- src/core.rt:355:1
 returns-2 : tie.Need-returns-2 Inv-loop μ-loop
 returns-2 c = laws.all-small _ _ _ (c .loop-test .left) ((c .before .loop .inv) .2)
 

@@ -2,71 +2,49 @@ use Rattle.vsu.proofs.CoreLaws as laws
 use borrow.Author.Needs.{needs}
 use Rattle.vsu.proofs.core.set_u8.Statement.{statement}
 use Rattle.vsu.proofs.core.set_u8.Tie as tie
-use Rattle.vsu.proofs.core.set_u8.Reads as reads
-use Rattle.vsu.proofs.core.set_u8.Lts as lts
-use Rattle.vsu.proofs.core.decode.Reads as decode-reads
-use Rattle.vsu.proofs.core.write_channel.Reads as write-channel-reads
-use Rattle.vsu.proofs.core.write_modulation.Reads as write-modulation-reads
-use Rattle.vsu.proofs.core.write_stop.Reads as write-stop-reads
-use Rattle.vsu.proofs.core.write_wave.Reads as write-wave-reads
 
--- src/core.rt:267:9
 decode-requires : tie.Need-decode-requires
 decode-requires c κs = search needs
 
--- src/core.rt:269:24
 enum-known-r : tie.Need-enum-known-r
 enum-known-r c = search needs
 
--- src/core.rt:269:31
 write-wave-requires : tie.Need-write-wave-requires
 write-wave-requires c κs = search needs
 
--- src/core.rt:270:30
 enum-known-r-2 : tie.Need-enum-known-r-2
 enum-known-r-2 c = search needs
 
--- src/core.rt:270:37
 write-modulation-requires : tie.Need-write-modulation-requires
 write-modulation-requires c κs = search needs
 
--- src/core.rt:271:29
 enum-known-r-3 : tie.Need-enum-known-r-3
 enum-known-r-3 c = search needs
 
--- src/core.rt:271:48
 write-channel-requires : tie.Need-write-channel-requires
 write-channel-requires c κs = search needs
 
--- src/core.rt:272:27
 enum-told : tie.Need-enum-told
 enum-told c = search needs
 
--- src/core.rt:272:27
 write-stop-requires : tie.Need-write-stop-requires
 write-stop-requires c κs = search needs
 
--- src/core.rt:273:30
 enum-told-2 : tie.Need-enum-told-2
 enum-told-2 c = search needs
 
--- src/core.rt:264:1
 returns : tie.Need-returns
 returns c = laws.decoded _ _ _ (c .before .before .before .before .decode .ensures) ((c .before .before .r .given .1)) (c .write-wave .ensures)
 
--- src/core.rt:264:1
 returns-2 : tie.Need-returns-2
 returns-2 c = laws.decoded _ _ _ (c .before .before .before .before .decode .ensures) ((c .before .before .r2 .given .1)) (c .write-modulation .ensures)
 
--- src/core.rt:264:1
 returns-3 : tie.Need-returns-3
 returns-3 c = laws.decoded _ _ _ (c .before .before .before .before .decode .ensures) ((c .before .before .r3 .given .1)) (c .write-channel .ensures)
 
--- src/core.rt:264:1
 returns-4 : tie.Need-returns-4
 returns-4 c = laws.decoded _ _ _ (c .before .before .before .decode .ensures) ((c .before .enum-told .given .1)) (c .write-stop .ensures)
 
--- src/core.rt:264:1
 returns-5 : tie.Need-returns-5
 returns-5 c = laws.decoded _ _ _ (c .before .before .decode .ensures) ((c .enum-told2 .given .1)) (laws.nothing-written _ _)
 

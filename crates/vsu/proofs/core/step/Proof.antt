@@ -16,10 +16,6 @@ use denote.Ref.{now}
 use Rattle.vsu.specs.declared.core.Frame.{Frame}
 use Rattle.vsu.proofs.core.step.Statement.{statement}
 use Rattle.vsu.proofs.core.step.Tie as tie
-use Rattle.vsu.proofs.core.step.Reads as reads
-use Rattle.vsu.proofs.core.step.Lts as lts
-use Rattle.vsu.proofs.core.cycle.Reads as cycle-reads
-use Rattle.vsu.proofs.core.sample.Reads as sample-reads
 
 abbrev Inv-loop : tie.InvT-loop
 Inv-loop u n out₀ waves modulation voices₀ output₀ at₀ i₀ out voices output at i =
@@ -32,36 +28,28 @@ Inv-loop u n out₀ waves modulation voices₀ output₀ at₀ i₀ out voices o
 abbrev μ-loop : tie.MeasureT-loop
 μ-loop u n out₀ waves modulation voices₀ output₀ at₀ i₀ out voices output at i = n - i
 
--- src/core.rt:464:5
 loop-holds : tie.Need-loop-holds Inv-loop μ-loop
 unfolding run frames sides
 loop-holds c = (search needs, refl, refl, refl, refl)
 
--- src/core.rt:465:13
 cycle-requires : tie.Need-cycle-requires Inv-loop μ-loop
 cycle-requires c κs = search needs
 
--- src/core.rt:467:9
 add-i : tie.Need-add-i Inv-loop μ-loop
 add-i c = search needs
 
--- src/core.rt:468:21
 sub-if1 : tie.Need-sub-if1 Inv-loop μ-loop
 sub-if1 c = search needs
 
--- src/core.rt:469:13
 add-output : tie.Need-add-output Inv-loop μ-loop
 add-output c = search needs
 
--- src/core.rt:464:5
 loop-less : tie.Need-loop-less Inv-loop μ-loop
 loop-less c = search needs
 
--- src/core.rt:464:5
 loop-again : tie.Need-loop-again Inv-loop μ-loop
 loop-again c = (search needs, laws.next-voices (c .before .before .before .before .loop .i) (c .before .before .before .before .before .before .before .before .args .u) ((c .before .before .before .before .loop .inv) .1) (c .before .cycle .ensures), laws.next-counts (c .before .before .before .before .loop .i) _ ((c .before .before .before .before .loop .inv) .2) (c .if1 .taken), ((c .before .before .before .before .loop .inv) .3) ∙ ap (λ (fs : List Frame). length (sides fs)) (laws.none-made (c .before .before .before .before .loop .i) (c .before .before .before .before .before .before .before .before .args .u) ((c .before .before .before .before .loop .inv) .2) (c .if1 .taken)), ((c .before .before .before .before .loop .inv) .4) ∙ ap (λ (fs : List Frame). sides fs ++ drop (c .before .before .before .before .loop .at) (now (c .before .before .before .before .before .before .before .before .args .out))) (laws.none-made (c .before .before .before .before .loop .i) (c .before .before .before .before .before .before .before .before .args .u) ((c .before .before .before .before .loop .inv) .2) (c .if1 .taken)))
 
--- src/core.rt:472:17
 sample-requires : tie.Need-sample-requires Inv-loop μ-loop
 sample-requires c κs = laws.quiet-at (c .before .before .before .before .before .before .before .before .before .args .u) ((c .before .before .before .before .before .before .before .before .before .pre .0)) ((c .before .before .before .before .before .loop .i) + 1) (laws.next-voices (c .before .before .before .before .before .loop .i) (c .before .before .before .before .before .before .before .before .before .args .u) ((c .before .before .before .before .before .loop .inv) .1) (c .before .before .cycle .ensures))
 
@@ -81,43 +69,33 @@ stored c =
 bytes : (c : tie.After-struct-told2 Inv-loop μ-loop) → length (now (c .before .before .before .before .before .before .before .before .before .before .before .before .args .out)) * 2 < 2 ^ 63
 bytes c = (c .before .before .before .before .before .before .before .before .before .before .before .before .good .1 .1 .0 .1)
 
--- src/core.rt:475:13
 mul-l : tie.Need-mul-l Inv-loop μ-loop
 mul-l c = omega (arith, room c, bytes c)
 
--- src/core.rt:475:13
 slice-set-from-l : tie.Need-slice-set-from-l Inv-loop μ-loop
 slice-set-from-l c = omega (arith, room c, long c)
 
--- src/core.rt:476:17
 add-r : tie.Need-add-r Inv-loop μ-loop
 add-r c = omega (arith, room c, bytes c)
 
--- src/core.rt:476:13
 mul-r : tie.Need-mul-r Inv-loop μ-loop
 mul-r c = omega (arith, room c, bytes c)
 
--- src/core.rt:476:13
 slice-set-from-r : tie.Need-slice-set-from-r Inv-loop μ-loop
 slice-set-from-r c = simp length-set (omega (arith, room c, long c))
 
--- src/core.rt:477:13
 add-at : tie.Need-add-at Inv-loop μ-loop
 add-at c = omega (arith, room c, bytes c)
 
--- src/core.rt:464:5
 loop-less-2 : tie.Need-loop-less-2 Inv-loop μ-loop
 loop-less-2 c = search needs
 
--- src/core.rt:464:5
 loop-again-2 : tie.Need-loop-again-2 Inv-loop μ-loop
 loop-again-2 c = (search needs, laws.next-voices (c .before .before .before .before .before .before .before .before .loop .i) (c .before .before .before .before .before .before .before .before .before .before .before .before .args .u) ((c .before .before .before .before .before .before .before .before .loop .inv) .1) (c .before .before .before .before .before .cycle .ensures), laws.next-frame (c .before .before .before .before .before .before .before .before .loop .i) _ ((c .before .before .before .before .before .before .before .before .loop .inv) .2) (c .before .before .before .before .if1 .left), laws.front-next (frames (c .before .before .before .before .before .before .before .before .loop .i) (c .before .before .before .before .before .before .before .before .before .before .before .before .args .u)) (c .before .before .sample .result) (now (c .before .before .before .before .before .before .before .before .before .before .before .before .args .out)) ((c .before .before .before .before .before .before .before .before .loop .inv) .3) ∙ ap (λ (fs : List Frame). length (sides fs)) (laws.one-made (c .before .before .before .before .before .before .before .before .loop .i) (c .before .before .before .before .before .before .before .before .before .before .before .before .args .u) ((c .before .before .before .before .before .before .before .before .loop .inv) .2) (c .before .before .before .before .if1 .left) (laws.next-voices (c .before .before .before .before .before .before .before .before .loop .i) (c .before .before .before .before .before .before .before .before .before .before .before .before .args .u) ((c .before .before .before .before .before .before .before .before .loop .inv) .1) (c .before .before .before .before .before .cycle .ensures)) (c .before .before .sample .ensures)), stored c ∙ laws.front-more (frames (c .before .before .before .before .before .before .before .before .loop .i) (c .before .before .before .before .before .before .before .before .before .before .before .before .args .u)) (c .before .before .sample .result) (now (c .before .before .before .before .before .before .before .before .before .before .before .before .args .out)) ((c .before .before .before .before .before .before .before .before .loop .inv) .3) (room c) ((c .before .before .before .before .before .before .before .before .loop .inv) .4) ∙ ap (λ (fs : List Frame). sides fs ++ drop ((c .before .before .before .before .before .before .before .before .loop .at) + 2) (now (c .before .before .before .before .before .before .before .before .before .before .before .before .args .out))) (laws.one-made (c .before .before .before .before .before .before .before .before .loop .i) (c .before .before .before .before .before .before .before .before .before .before .before .before .args .u) ((c .before .before .before .before .before .before .before .before .loop .inv) .2) (c .before .before .before .before .if1 .left) (laws.next-voices (c .before .before .before .before .before .before .before .before .loop .i) (c .before .before .before .before .before .before .before .before .before .before .before .before .args .u) ((c .before .before .before .before .before .before .before .before .loop .inv) .1) (c .before .before .before .before .before .cycle .ensures)) (c .before .before .sample .ensures)))
 
--- src/core.rt:454:1
 same-length : tie.Need-same-length Inv-loop μ-loop
 same-length c = laws.front-length (frames (c .before .loop .i) (c .before .before .before .before .before .args .u)) (now (c .before .before .before .before .before .args .out)) ((c .before .loop .inv) .3) (laws.front-within (c .before .before .before .before .before .args .u) ((c .before .before .before .before .before .pre .0)) (c .before .loop .i) (c .before .before .before .before .before .args .n) (length (now (c .before .before .before .before .before .args .out))) ((c .before .before .before .before .before .pre .1)) ((c .before .loop .inv) .3) ((c .before .loop .inv) .0)) ((c .before .loop .inv) .4)
 
--- src/core.rt:454:1
 returns : tie.Need-returns Inv-loop μ-loop
 returns c = let all : (c .before .loop .i) ≡ (c .before .before .before .before .before .args .n) = omega arith in (
   laws.run-is (c .before .loop .i) (c .before .before .before .before .before .args .u) ((c .before .loop .inv) .1) ((c .before .loop .inv) .2) ∙ ap (λ (k : ℕ). run k (c .before .before .before .before .before .args .u)) all,

@@ -3,59 +3,46 @@ use mathlib.Core.Path.{_≡_}
 use native.Mathlib.Omega.{arith}
 use lib.ListN.{length}
 use borrow.Author.Needs.{needs}
-use Rattle.voice.specs.ChannelEnum.{frequencyStep}
+use Rattle.voice.specs.ChannelEnum.{stepFrequency}
 use Rattle.vsu.proofs.Upto.{upTo, upTo-none, upTo-more, upTo-all}
 use Rattle.vsu.proofs.core.step_sampling_frequency.Statement.{statement}
 use Rattle.vsu.proofs.core.step_sampling_frequency.Tie as tie
-use Rattle.vsu.proofs.core.step_sampling_frequency.Reads as reads
-use Rattle.vsu.proofs.core.step_sampling_frequency.Lts as lts
-use Rattle.voice.proofs.channel_enum.step_sampling_frequency.Reads as step-sampling-frequency-reads
 
 abbrev Inv-loop : tie.InvT-loop
-Inv-loop out₀ i₀ out i = (i ≤ 6) × (out ≡ upTo frequencyStep i out₀)
+Inv-loop out₀ i₀ out i = (i ≤ 6) × (out ≡ upTo stepFrequency i out₀)
 
 abbrev μ-loop : tie.MeasureT-loop
 μ-loop out₀ i₀ out i = 6 - i
 
--- src/core.rt:268:5
 loop-holds : tie.Need-loop-holds Inv-loop μ-loop
 loop-holds c = (search needs, upTo-none _ _)
 
--- src/core.rt:269:17
 mul-v : tie.Need-mul-v Inv-loop μ-loop
 mul-v c = search needs
 
--- src/core.rt:269:17
 array-copy-out-v : tie.Need-array-copy-out-v Inv-loop μ-loop
 array-copy-out-v c = search needs
 
--- src/core.rt:270:18
 step-sampling-frequency-requires : tie.Need-step-sampling-frequency-requires Inv-loop μ-loop
 step-sampling-frequency-requires c κs = search needs
 
--- src/core.rt:270:9
 mul-out : tie.Need-mul-out Inv-loop μ-loop
 mul-out c = search needs
 
--- src/core.rt:270:9
 array-set-from-out : tie.Need-array-set-from-out Inv-loop μ-loop
 array-set-from-out c = search needs
 
--- src/core.rt:271:9
 add-i : tie.Need-add-i Inv-loop μ-loop
 add-i c = search needs
 
--- src/core.rt:268:5
 loop-less : tie.Need-loop-less Inv-loop μ-loop
 loop-less c = search needs
 
--- src/core.rt:268:5
 loop-again : tie.Need-loop-again Inv-loop μ-loop
 loop-again c =
     let six : length (c .before .before .before .before .args .voices) ≡ 6 = search needs in
     (search needs, upTo-more _ _ _ (c .before .before .before .loop .inv .1) (omega arith) (c .step-sampling-frequency .ensures))
 
--- src/core.rt:263:1
 returns : tie.Need-returns Inv-loop μ-loop
 returns c =
     let six : length (c .before .before .args .voices) ≡ 6 = search needs in

@@ -7,9 +7,6 @@ use Rattle.vsu.specs.Core.{stop}
 use Rattle.vsu.proofs.Upto.{upTo, upTo-none, upTo-more, upTo-all}
 use Rattle.vsu.proofs.core.stop_all.Statement.{statement}
 use Rattle.vsu.proofs.core.stop_all.Tie as tie
-use Rattle.vsu.proofs.core.stop_all.Reads as reads
-use Rattle.vsu.proofs.core.stop_all.Lts as lts
-use Rattle.vsu.proofs.core.stopped.Reads as stopped-reads
 
 abbrev Inv-loop : tie.InvT-loop
 Inv-loop out₀ i₀ out i = (i ≤ 6) × (out ≡ upTo stop i out₀)
@@ -17,45 +14,35 @@ Inv-loop out₀ i₀ out i = (i ≤ 6) × (out ≡ upTo stop i out₀)
 abbrev μ-loop : tie.MeasureT-loop
 μ-loop out₀ i₀ out i = 6 - i
 
--- src/core.rt:201:5
 loop-holds : tie.Need-loop-holds Inv-loop μ-loop
 loop-holds c = (search needs, upTo-none _ _)
 
--- src/core.rt:202:17
 mul-v : tie.Need-mul-v Inv-loop μ-loop
 mul-v c = search needs
 
--- src/core.rt:202:17
 array-copy-out-v : tie.Need-array-copy-out-v Inv-loop μ-loop
 array-copy-out-v c = search needs
 
--- src/core.rt:203:18
 stopped-requires : tie.Need-stopped-requires Inv-loop μ-loop
 stopped-requires c κs = search needs
 
--- src/core.rt:203:9
 mul-out : tie.Need-mul-out Inv-loop μ-loop
 mul-out c = search needs
 
--- src/core.rt:203:9
 array-set-from-out : tie.Need-array-set-from-out Inv-loop μ-loop
 array-set-from-out c = search needs
 
--- src/core.rt:204:9
 add-i : tie.Need-add-i Inv-loop μ-loop
 add-i c = search needs
 
--- src/core.rt:201:5
 loop-less : tie.Need-loop-less Inv-loop μ-loop
 loop-less c = search needs
 
--- src/core.rt:201:5
 loop-again : tie.Need-loop-again Inv-loop μ-loop
 loop-again c =
     let six : length (c .before .before .before .before .args .voices) ≡ 6 = search needs in
     (search needs, upTo-more _ _ _ (c .before .before .before .loop .inv .1) (omega arith) (c .stopped .ensures))
 
--- src/core.rt:196:1
 returns : tie.Need-returns Inv-loop μ-loop
 returns c =
     let six : length (c .before .before .args .voices) ≡ 6 = search needs in

@@ -8,31 +8,22 @@ use mathlib.Core.Path.{_≡_}
 use borrow.Author.Needs.{needs}
 use Rattle.vsu.proofs.core.write_modulation.Statement.{statement}
 use Rattle.vsu.proofs.core.write_modulation.Tie as tie
-use Rattle.vsu.proofs.core.write_modulation.Reads as reads
-use Rattle.vsu.proofs.core.write_modulation.Lts as lts
-use Rattle.voice.proofs.bits.signed.Reads as signed-reads
 
--- src/core.rt:227:13
 array-copy-out-v : tie.Need-array-copy-out-v
 array-copy-out-v c = search needs
 
--- src/core.rt:229:9
 returns : tie.Need-returns
 returns c = laws.modulation-dropped _ _ _ (c .if1 .taken)
 
--- src/core.rt:233:28
 signed-requires : tie.Need-signed-requires
 signed-requires c κs = search needs
 
--- src/core.rt:233:9
 element-set-from-t : tie.Need-element-set-from-t
 element-set-from-t c = search needs
 
--- src/core.rt:223:1
 returns-2 : tie.Need-returns-2
 returns-2 c = laws.modulation-written _ _ _ (c .before .before .if1 .left) (toZ-ofZ {w = w8} (record { sfits = (c .signed .ok) }) ∙ (c .signed .ensures))
 
--- src/core.rt:223:1
 returns-3 : tie.Need-returns-3
 returns-3 c = let long : length ((c .before .before .before .before .args .u) .modulation) ≡ 32 = search needs in laws.modulation-past _ _ _ (c .before .if1 .left) (omega arith)
 

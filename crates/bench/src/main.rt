@@ -1,0 +1,164 @@
+// The timed run, the same as `oracle bench`: prints nothing on empty standard input; on a cycle count runs that many cycles with
+// all six voices playing, and prints the sum of the frames.
+use libc::STDIN_FILENO;
+use libc::STDOUT_FILENO;
+use vsu::core;
+use vsu::core::Vsu;
+ghost use Prim.Native.Nat.{_≤_};
+
+struct Timed {
+    unit: Vsu,
+    sum: u32,
+}
+
+fn byte(x: u32) -> u8 {
+    (x % 256) as u8
+}
+
+// One more decimal digit, of at most twelve; any other byte adds nothing.
+fn digit(n: u64, d: u8) -> u64 {
+    match d {
+        48..=57 => n % 100_000_000_000 * 10 + (d - 48) as u64,
+        _ => n,
+    }
+}
+
+fn decimal(text: &[u8]) -> u64 {
+    let mut n = 0;
+    let mut i = 0;
+    while i < text.len() {
+        n = digit(n, text[i]);
+        i += 1;
+    }
+    n
+}
+
+fn count() -> u64 {
+    let mut text = [0u8; 16];
+    io::read_full(STDIN_FILENO, &mut text);
+    decimal(&text)
+}
+
+fn set(u: Vsu, address: u32, value: u8) -> Vsu {
+    let m = core::write(u, address, value);
+    let s = m.state;
+    s
+}
+
+fn waves(u: Vsu) -> Vsu {
+    let mut t = u;
+    let mut a: u32 = 0;
+    while a < 160 {
+        t = set(t, 4 * a, byte(a * 7 % 64));
+        a += 1;
+    }
+    t
+}
+
+fn modulation(u: Vsu) -> Vsu {
+    let mut t = u;
+    let mut a: u32 = 0;
+    while a < 32 {
+        t = set(t, 0x280 + 4 * a, byte(a * 37));
+        a += 1;
+    }
+    t
+}
+
+// Offset 0x14: envelope on and looping; channel 5 modulates with the table looped, noise has tap 13.
+fn mode(c: u32) -> u8 {
+    match c {
+        4 => 0x73,
+        5 => 0x23,
+        _ => 3,
+    }
+}
+
+fn voice(u: Vsu, channel: u32) -> Vsu {
+    let c = channel % 6;
+    let base = 0x400 + 0x40 * c;
+    let v = set(u, base + 4, byte(0xF7 - c));
+    let w = set(v, base + 8, byte(0x40 * c + 0x21));
+    let x = set(w, base + 12, if c < 5 { 6 } else { 7 });
+    let y = set(x, base + 16, byte(0x90 + c));
+    let z = set(y, base + 20, mode(c));
+    let a = set(z, base + 24, byte(c % 5));
+    let b = set(a, base + 28, if c == 4 { 0x19 } else { 0 });
+    set(b, base, 0x9F)
+}
+
+fn ready() -> Timed {
+    let mut u = modulation(waves(core::new()));
+    let mut c: u32 = 0;
+    while c < 6 {
+        u = voice(u, c);
+        c += 1;
+    }
+    Timed { unit: u, sum: 0 }
+}
+
+// A side is never below 0.
+fn side(value: i16) -> u32 {
+    if value < 0 {
+        return 0;
+    }
+    value as u32
+}
+
+fn fold(sum: u32, value: u32) -> u32 {
+    ((sum as u64 * 31 + value as u64) % 1_000_000_007) as u32
+}
+
+fn least(a: usize, b: usize) -> usize
+    ensures { λ r. ⌜ r ≤ b ⌝ }
+{
+    if a < b { a } else { b }
+}
+
+fn frames(start: u32, out: &[i16], made: u32) -> u32 {
+    let end = least(made as usize * 2, out.len());
+    let mut sum = start;
+    let mut i = 0;
+    while i < end {
+        sum = fold(sum, side(out[i]));
+        i += 1;
+    }
+    sum
+}
+
+fn run(t: Timed, n: u32, out: &mut [i16; 16384]) -> Timed {
+    let u = t.unit;
+    let r = core::run(u, n, out);
+    let s = r.state;
+    Timed {
+        unit: s,
+        sum: frames(t.sum, out, r.frames),
+    }
+}
+
+// In parts, for a part's frames have to fit the buffer.
+fn sum_of(n: u64) -> u32 {
+    let mut out = [0i16; 16384];
+    let mut t = ready();
+    let parts = n / 3_000_000;
+    let mut i = 0;
+    while i < parts {
+        t = run(t, 3_000_000, &mut out);
+        i += 1;
+    }
+    let last = run(t, (n % 3_000_000) as u32, &mut out);
+    last.sum
+}
+
+fn show(sum: u32) {
+    io::print_decimal(STDOUT_FILENO, sum as u64);
+    io::write_all(STDOUT_FILENO, b"\n");
+}
+
+fn main() {
+    let n = count();
+    if n == 0 {
+        return;
+    }
+    show(sum_of(n));
+}

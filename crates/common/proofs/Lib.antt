@@ -1,0 +1,3 @@
+pub mod Cases
+pub mod BitsLaws
+pub mod ChannelLaws

@@ -1,0 +1,20 @@
+//! The sound unit as the given Rust has it, and what is needed to compare another unit with it.
+
+#[macro_use]
+extern crate savefile_derive;
+
+// `constants` and `vsu`, the given files, at the paths that build.rs found
+include!(concat!(env!("OUT_DIR"), "/modules.rs"));
+
+pub mod bench;
+pub mod digest;
+pub mod explain;
+pub mod fields;
+pub mod image;
+pub mod random;
+pub mod replay;
+pub mod sample;
+pub mod state;
+pub mod stream;
+
+pub use vsu::core::VSU;

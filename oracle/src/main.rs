@@ -1,0 +1,115 @@
+use oracle::stream::Maker;
+use oracle::{bench, constants, explain, random, replay, sample};
+use std::io::{BufWriter, Read, Write};
+use std::process::exit;
+
+const USAGE: &str = "usage: oracle constants
+       oracle sample                          the stored sample stream, to standard output
+       oracle random SEED CASES [MAXCYCLES]   a stream of random cases, none longer than MAXCYCLES
+       oracle replay                          replays a stream from standard input on the Rust itself
+       oracle explain [OP]                    prints a stream to read; all fields after op number OP
+       oracle bench CYCLES";
+
+fn main() {
+    let words: Vec<String> = std::env::args().skip(1).collect();
+    let words: Vec<&str> = words.iter().map(String::as_str).collect();
+    match words[..] {
+        ["constants"] => print_constants(),
+        ["sample"] => write_sample(),
+        ["random", seed, cases] => write_random(number(seed), number(cases), random::MAX_CYCLES),
+        ["random", seed, cases, max] => write_random(number(seed), number(cases), number(max) as u32),
+        ["replay"] => run_replay(),
+        ["explain"] => run_explain(None),
+        ["explain", op] => run_explain(Some(number(op))),
+        ["bench", cycles] => println!("{}", bench::bench(number(cycles) as usize)),
+        _ => fail(USAGE),
+    }
+}
+
+fn print_constants() {
+    println!("CLOCK_SPEED {}", constants::CLOCK_SPEED);
+    println!("SOUND_LIVE_INTERVAL_CYCLE_COUNT {}", constants::SOUND_LIVE_INTERVAL_CYCLE_COUNT);
+    println!("WAVE_CHANNEL_BASE_FREQUENCY_CYCLE_COUNT {}", constants::WAVE_CHANNEL_BASE_FREQUENCY_CYCLE_COUNT);
+    println!("NOISE_CHANNEL_BASE_FREQUENCY_CYCLE_COUNT {}", constants::NOISE_CHANNEL_BASE_FREQUENCY_CYCLE_COUNT);
+    println!("ENVELOPE_CYCLE_COUNT {}", constants::ENVELOPE_CYCLE_COUNT);
+    println!("SWEEP_SLOW_CYCLE_COUNT {}", constants::SWEEP_SLOW_CYCLE_COUNT);
+    println!("SWEEP_FAST_CYCLE_COUNT {}", constants::SWEEP_FAST_CYCLE_COUNT);
+    println!("SOUND_SAMPLE_RATE_CYCLE_COUNT {}", constants::SOUND_SAMPLE_RATE_CYCLE_COUNT);
+}
+
+fn write_sample() {
+    let mut maker = Maker::new();
+    for (name, part) in sample::PARTS {
+        let (bytes, before) = (maker.bytes.len(), maker.totals);
+        part(&mut maker);
+        let now = maker.totals;
+        let (cases, checks, cycles) =
+            (now.cases - before.cases, now.checks - before.checks, now.cycles - before.cycles);
+        eprintln!("{name}: {} bytes {cases} cases {checks} checks {cycles} cycles", maker.bytes.len() - bytes);
+    }
+    maker.end();
+    put(&maker.bytes);
+    eprintln!("made {}", maker.totals);
+}
+
+/// The totals go to standard error, so that a script can hold the replaying program's count against them.
+fn write_random(seed: u64, cases: u64, max_cycles: u32) {
+    let mut out = BufWriter::new(std::io::stdout().lock());
+    let mut maker = Maker::new();
+    let mut numbers = random::Numbers::new(seed);
+    for _ in 0..cases {
+        random::case(&mut maker, &mut numbers, max_cycles);
+        // a reader that has found a difference closes its end; that is no error of ours
+        if out.write_all(&maker.bytes).is_err() {
+            return;
+        }
+        maker.bytes.clear();
+    }
+    maker.end();
+    if out.write_all(&maker.bytes).and_then(|_| out.flush()).is_ok() {
+        eprintln!("made {}", maker.totals);
+    }
+}
+
+fn run_replay() {
+    match replay::replay(&read_in()) {
+        Ok(totals) => println!("agreed {totals}"),
+        Err(text) => {
+            println!("differs {text}");
+            exit(1);
+        }
+    }
+}
+
+fn run_explain(all: Option<u64>) {
+    let mut out = BufWriter::new(std::io::stdout().lock());
+    let result = explain::explain(&read_in(), all, &mut |line| {
+        if writeln!(out, "{line}").is_err() {
+            exit(0);
+        }
+    });
+    let _ = out.flush();
+    if let Err(text) = result {
+        fail(&text);
+    }
+}
+
+fn read_in() -> Vec<u8> {
+    let mut bytes = Vec::new();
+    std::io::stdin().lock().read_to_end(&mut bytes).unwrap_or_else(|e| fail(&e.to_string()));
+    bytes
+}
+
+fn put(bytes: &[u8]) {
+    let mut out = std::io::stdout().lock();
+    out.write_all(bytes).and_then(|_| out.flush()).unwrap_or_else(|e| fail(&e.to_string()));
+}
+
+fn number(word: &str) -> u64 {
+    word.parse().unwrap_or_else(|_| fail(USAGE))
+}
+
+fn fail(text: &str) -> ! {
+    eprintln!("{text}");
+    exit(2);
+}

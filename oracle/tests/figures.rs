@@ -1,0 +1,264 @@
+//! Document 01's figures and counts, run on the Rust; and the oracle's own parts.
+
+use oracle::constants::*;
+use oracle::digest::{digest, digest_state, Frames};
+use oracle::image::{from_image, image, image_of, state_of, LENGTH};
+use oracle::random::{state, Numbers};
+use oracle::replay::replay;
+use oracle::sample::sample;
+use oracle::state::{in_range, power_on, read, write, State, NOISE, SWEPT};
+use oracle::vsu::channel::Channel;
+use oracle::VSU;
+
+fn step(unit: &mut VSU, n: usize) -> Vec<(i16, i16)> {
+    let mut frames = Frames::default();
+    unit.step(n, &mut frames);
+    frames.0
+}
+
+fn after(s: &State, n: usize) -> State {
+    let mut unit = write(s);
+    step(&mut unit, n);
+    read(&unit)
+}
+
+#[test]
+fn cycle_counts() {
+    assert_eq!(CLOCK_SPEED, 20_000_000);
+    assert_eq!(SOUND_LIVE_INTERVAL_CYCLE_COUNT, 76_805);
+    assert_eq!(WAVE_CHANNEL_BASE_FREQUENCY_CYCLE_COUNT, 4);
+    assert_eq!(NOISE_CHANNEL_BASE_FREQUENCY_CYCLE_COUNT, 40);
+    assert_eq!(ENVELOPE_CYCLE_COUNT, 307_219);
+    assert_eq!(SWEEP_SLOW_CYCLE_COUNT, 153_609);
+    assert_eq!(SWEEP_FAST_CYCLE_COUNT, 19_201);
+    assert_eq!(SOUND_SAMPLE_RATE_CYCLE_COUNT, 480);
+}
+
+/// A state whose next cycle makes a frame: the first `voices` wave channels play, all samples alike.
+fn about_to_sound(voices: usize, level: u32, volume: u32, sample: u32) -> State {
+    let mut s = power_on();
+    s.waves = [sample; 160];
+    for c in s.channels.iter_mut().take(voices) {
+        c.play = 1;
+        (c.level, c.left, c.right) = (level, volume, volume);
+    }
+    s.channels[NOISE].shift = 1;
+    s.channels[NOISE].position = 1;
+    s.output = 479;
+    s
+}
+
+fn sound(s: &State) -> (i16, i16) {
+    step(&mut write(s), 1)[0]
+}
+
+#[test]
+fn p1_p2_p3_mixing() {
+    let mut voice = Channel::new();
+    (voice.envelope_level, voice.left_volume, voice.right_volume) = (15, 15, 15);
+    assert_eq!(voice.sample(63), (913, 913));
+    (voice.envelope_level, voice.left_volume, voice.right_volume) = (1, 1, 1);
+    assert_eq!(voice.sample(63), (31, 31));
+    // one voice at 913, cut to a multiple of 8 and times 4; six of them
+    assert_eq!(sound(&about_to_sound(1, 15, 15, 63)), (3648, 3648));
+    assert_eq!(sound(&about_to_sound(6, 15, 15, 63)), (21_888, 21_888));
+    // 31 is cut to 24; two such voices make 62, which is cut to 56 after adding
+    assert_eq!(sound(&about_to_sound(1, 1, 1, 63)), (96, 96));
+    assert_eq!(sound(&about_to_sound(2, 1, 1, 63)), (224, 224));
+    // sums of 7 and 8
+    assert_eq!(sound(&about_to_sound(1, 1, 1, 14)), (0, 0));
+    assert_eq!(sound(&about_to_sound(1, 1, 1, 16)), (32, 32));
+}
+
+fn noise(shift: u32, tap: u32, clocks: usize) -> u32 {
+    let mut s = power_on();
+    let c = &mut s.channels[NOISE];
+    c.frequency = 2047;
+    (c.shift, c.position, c.bank) = (shift, shift % 2, tap);
+    after(&s, 40 * clocks).channels[NOISE].shift
+}
+
+#[test]
+fn p4_p5_p6_noise() {
+    assert_eq!(noise(0, 14, 8), 0xFF);
+    assert_eq!(noise(0, 14, 9), 0x1FE);
+    assert_eq!(noise(0, 6, 8), 0xFE);
+    for tap in [14, 10, 13, 4, 8, 6, 9, 11] {
+        assert_eq!(noise(0x7FFF, tap, 100), 0x7FFF);
+    }
+}
+
+fn about_to_sweep() -> State {
+    let mut s = power_on();
+    s.channels[SWEPT].play = 1;
+    s.sweep.enable = 1;
+    s.sweep.interval = 1;
+    s.sweep.step_counter = 19_200;
+    s
+}
+
+#[test]
+fn p7_sweep() {
+    let mut s = about_to_sweep();
+    s.sweep.up = 1;
+    s.sweep.shift = 1;
+    s.sweep.next = 1365;
+    let t = after(&s, 1);
+    assert_eq!((t.channels[SWEPT].play, t.sweep.current, t.sweep.next), (1, 1365, 2047));
+    s.sweep.next = 1366;
+    let t = after(&s, 1);
+    assert_eq!((t.channels[SWEPT].play, t.sweep.current, t.sweep.next), (0, 1366, 1366));
+}
+
+#[test]
+fn p8_p9_p10_modulation() {
+    let mut s = about_to_sweep();
+    s.sweep.modulate = 1;
+    s.sweep.last = 100;
+    s.modulation[0] = 0x80;
+    assert_eq!(after(&s, 1).sweep.next, 2020);
+    s.sweep.last = 0;
+    s.modulation[0] = 0xFF;
+    assert_eq!(after(&s, 1).sweep.next, 2047);
+    s.sweep.index = 31;
+    let t = after(&s, 1);
+    assert_eq!((t.sweep.enable, t.sweep.index), (0, 31));
+    s.sweep.loops = 1;
+    let t = after(&s, 1);
+    assert_eq!((t.sweep.enable, t.sweep.index), (1, 0));
+}
+
+#[test]
+fn run_by_program() {
+    let mut unit = VSU::new();
+    assert_eq!(step(&mut unit, 479).len(), 0);
+    assert_eq!(step(&mut unit, 1).len(), 1);
+
+    // frequency 0 moves after 8,192 cycles
+    let position = |n| after(&power_on(), n).channels[0].position;
+    assert_eq!((position(8_191), position(8_192)), (0, 1));
+
+    for byte in [0xBF, 0xA0] {
+        let mut unit = VSU::new();
+        unit.set_u8(0x400, byte);
+        step(&mut unit, 76_804);
+        assert_eq!(read(&unit).channels[0].play, 1);
+        step(&mut unit, 1);
+        assert_eq!(read(&unit).channels[0].play, 0);
+    }
+
+    // channel 5's written frequency acts after 19,201 cycles
+    let mut unit = VSU::new();
+    unit.set_u8(0x508, 0x55);
+    unit.set_u8(0x50C, 0x07);
+    step(&mut unit, 19_200);
+    assert_eq!(read(&unit).sweep.current, 0);
+    step(&mut unit, 1);
+    assert_eq!(read(&unit).sweep.current, 0x755);
+
+    // the listing's own log
+    let mut unit = VSU::new();
+    for (address, byte) in [(0x000, 0x3F), (0x404, 0xF0), (0x410, 0xF0), (0x400, 0x80)] {
+        unit.set_u8(address, byte);
+    }
+    assert_eq!(step(&mut unit, 960), [(3648, 0), (3648, 0)]);
+}
+
+#[test]
+fn power_on_state() {
+    assert_eq!(read(&VSU::new()), power_on());
+    let bytes = image(&VSU::new());
+    assert_eq!(bytes[..16], [1, 0, 16, 0, 0xA4, 1, 0, 0, 5, 0, 6, 0, 208, 0, 0x90, 1]);
+    // all zero but the noise channel's tap
+    for (i, byte) in bytes.iter().enumerate().skip(16) {
+        assert_eq!(*byte, if i == 208 + 5 * 32 + 9 { 14 } else { 0 }, "offset {i}");
+    }
+}
+
+#[test]
+fn image_round_trip() {
+    let mut numbers = Numbers::new(1);
+    for _ in 0..2_000 {
+        let s = state(&mut numbers);
+        assert!(in_range(&s));
+        let bytes = image_of(&s);
+        assert_eq!(state_of(&bytes), Some(s.clone()));
+        let unit = from_image(&bytes);
+        assert_eq!(read(&unit), s);
+        assert_eq!(image(&unit), bytes);
+        assert_eq!(digest(&unit), digest_state(&s));
+    }
+}
+
+#[test]
+fn a_wrong_image_is_refused() {
+    let bytes = image_of(&state(&mut Numbers::new(2)));
+    // header, zero bytes, unused flags, and the noise output against its shift
+    for at in (0..16).chain([219, 238, 239, 409, 418, 419]) {
+        let mut wrong = bytes;
+        wrong[at] ^= 1;
+        assert_eq!(state_of(&wrong), None, "offset {at}");
+    }
+    for (at, bits) in [(208, 0x20), (400, 0x80), (378, 1), (396, 1)] {
+        let mut wrong = bytes;
+        wrong[at] ^= bits;
+        assert_eq!(state_of(&wrong), None, "offset {at}");
+    }
+}
+
+/// Any one bit changed in an image of a state in range changes the digest. The noise output and the shift's lowest
+/// bit change together.
+#[test]
+fn digest_sees_every_field() {
+    let mut numbers = Numbers::new(3);
+    let mut seen = [false; LENGTH];
+    for _ in 0..50 {
+        let bytes = image_of(&state(&mut numbers));
+        let old = digest_state(&state_of(&bytes).unwrap());
+        for at in 16..LENGTH {
+            for bit in 0..8 {
+                let mut other = bytes;
+                other[at] ^= 1 << bit;
+                if at == 378 {
+                    other[396] ^= 1 << bit;
+                }
+                if let Some(s) = state_of(&other) {
+                    assert_ne!(digest_state(&s), old, "offset {at} bit {bit}");
+                    seen[at] = true;
+                }
+            }
+        }
+    }
+    let unseen: Vec<usize> = (16..LENGTH).filter(|at| !seen[*at]).collect();
+    // only bytes that are zero in every image may be left
+    for at in unseen {
+        let in_channel = (208..400).contains(&at).then(|| (at - 208) % 32);
+        let zero = match in_channel {
+            Some(11 | 30 | 31) => true,
+            Some(19 | 21 | 22 | 23 | 27) => true, // upper bytes of numbers below 2^24 or 2^8
+            Some(28 | 29) => at < 368,
+            Some(_) => false,
+            None => matches!(at, 407 | 409 | 418 | 419),
+        };
+        assert!(zero, "offset {at} was never changed");
+    }
+}
+
+#[test]
+fn replay_finds_a_wrong_answer() {
+    let bytes = sample().bytes;
+    let totals = replay(&bytes).unwrap();
+    assert_eq!(totals, sample().totals);
+    assert!(replay(&bytes[..bytes.len() - 1]).is_err());
+    // the last op before E is a digest
+    let mut wrong = bytes.clone();
+    wrong[bytes.len() - 2] ^= 1;
+    assert!(replay(&wrong).is_err());
+}
+
+#[test]
+fn sample_is_small() {
+    let made = sample();
+    assert!(made.bytes.len() < 60_000);
+    assert!(made.totals.cycles < 6_000_000);
+}
