@@ -1,5 +1,7 @@
 // The timed run, the same as `oracle bench`: prints nothing on empty standard input; on a cycle count runs that many cycles with
-// all six voices playing, and prints the sum of the frames.
+// all six voices playing, and prints the sum of the frames. On a log of edition 1 it checks that ten thousand times.
+mod logs;
+
 use libc::STDIN_FILENO;
 use libc::STDOUT_FILENO;
 use vsu::core;
@@ -33,10 +35,11 @@ fn decimal(text: &[u8]) -> u64 {
     n
 }
 
-fn count() -> u64 {
+// The first bytes of standard input, zeros behind a shorter one.
+fn start() -> [u8; 16] {
     let mut text = [0u8; 16];
     io::read_full(STDIN_FILENO, &mut text);
-    decimal(&text)
+    text
 }
 
 fn set(u: Vsu, address: u32, value: u8) -> Vsu {
@@ -156,7 +159,12 @@ fn show(sum: u32) {
 }
 
 fn main() {
-    let n = count();
+    let text = start();
+    if text[0] == 1 {
+        logs::run(text);
+        return;
+    }
+    let n = decimal(&text);
     if n == 0 {
         return;
     }

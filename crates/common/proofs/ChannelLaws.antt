@@ -8,7 +8,7 @@ use native.Mathlib.Omega.{arith}
 use borrow.Author.Tests.{lt-leb, le-leb, lt-ltb, le-ltb, ne-eqb, leb-true, leb-false, ltb-true, ltb-false}
 use borrow.Author.Needs.{needs}
 use lib.Dec.{eqb, leb, ltb}
-use Rattle.common.proofs.Cases.{each, ways}
+use Rattle.laws.proofs.Cases.{each, ways}
 use Rattle.common.specs.Channel.{stopped, withLive, withPitch, withEnvelope, liveInRange, pitchInRange, envelopeInRange, channelInRange, side, liveStep, liveTicked, liveWith, pitchStep, pitchTicked, pitchWith, envelopeStep, envelopeTicked, envelopeWith, nextLevel, amplitudeOf, channelWrite, writeInterval, writeVolumes, writeLow, writeHigh, writeEnvelope, writeEnvelopeMode}
 use Rattle.common.specs.declared.channel.Channel.{Channel}
 use Rattle.common.specs.declared.channel.Live.{Live}

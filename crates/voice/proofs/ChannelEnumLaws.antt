@@ -11,7 +11,7 @@ use lib.IntN.{ℤ}
 use lib.ListN.{length, getD}
 use Rattle.common.proofs.ChannelLaws.{side-le, channel-live-keeps, channel-pitch-keeps, channel-envelope-keeps, channel-stop-keeps, channel-write-keeps, level-le, left-le, right-le}
 use Rattle.voice.proofs.SweepModulateLaws.{sweep-write-keeps, sweep-step-keeps, sweep-step-channel}
-use Rattle.common.proofs.Cases.{both, each, ways}
+use Rattle.laws.proofs.Cases.{both, each, ways}
 use Rattle.common.specs.Bits.{bits}
 use Rattle.common.specs.Channel.{stopped, withPitch, pitchStep, side, channelInRange}
 use Rattle.voice.specs.ChannelEnum.{voiceOf, taps, bankWrite, positionWrite, noiseWrite, kindWrite, tickOf, frequencyOf, newBit, clocked, nextSample, sampled, stepFrequency, stepSweepOf, stepSweep, isTap, waveKindInRange, sweptKindInRange, noiseKindInRange, sampleOf, heard, stepAutoStop, stepEnvelope, voiceWrite, waveInRange, sweptInRange, noiseInRange}

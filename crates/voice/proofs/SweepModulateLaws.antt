@@ -15,7 +15,7 @@ use mir.Syntax.{w8}
 use mir.Val.{toZ, ofZ}
 use mir.Facts.{toZ-ofZ}
 use Rattle.common.proofs.BitsLaws.{lifted-lt}
-use Rattle.common.proofs.Cases.{each, ways}
+use Rattle.laws.proofs.Cases.{each, ways}
 use Rattle.common.specs.Bits.{lifted}
 use Rattle.common.specs.Channel.{stopped, channelInRange, liveInRange}
 use Rattle.voice.specs.SweepModulate.{sweepWith, withFrequencies, withIndex, restart, rewrite, writeMode, writeSweep, sweepWrite, modulateOnce, sweepOnce, sweepDue, sweepTicked, sweepPeriod, sweepStep, sweepInRange}

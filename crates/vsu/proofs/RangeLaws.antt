@@ -13,7 +13,7 @@ use lib.IntN.{ℤ, pos, negsuc}
 use lib.Signed.{mag}
 use lib.ListN.{getD, set, length, length-map, length-set}
 use lib.Seq.{getD-set-same, getD-set-other}
-use Rattle.common.proofs.Cases.{both, each, ways}
+use Rattle.laws.proofs.Cases.{both, each, ways}
 use Rattle.voice.proofs.ChannelEnumLaws.{Kept, wave-kept, swept-kept, noise-kept, swept-on-keeps, heard-le}
 use Rattle.common.specs.Bits.{bit, signed}
 use Rattle.common.specs.Channel.{channelInRange, liveInRange, pitchInRange, envelopeInRange}

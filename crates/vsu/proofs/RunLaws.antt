@@ -11,7 +11,7 @@ use lib.Dec.{leb}
 use lib.IntN.{ℤ}
 use lib.ListN.{drop, set, length, getD, length-append, length-drop}
 use lib.Seq.{drop-cons}
-use Rattle.common.proofs.Cases.{ways}
+use Rattle.laws.proofs.Cases.{ways}
 use Rattle.voice.specs.declared.channel_enum.Voice.{Voice}
 use Rattle.vsu.proofs.RangeLaws.{Side, range-facts, cycle-keeps, run-keeps, quiet, frame-sides}
 use Rattle.vsu.specs.Core.{SmallSums, cycle, frameOf, makesFrame, frames, framesDue, inRange, made, run, sides, sumsOf, voicesAfter}

@@ -1,6 +1,6 @@
 -- How a test is taken apart: the tests that `&&` joins, and the two ways of a `cond`.
 use mathlib.Core.Path.{_≡_, refl}
-use mathlib.Core.Bool.{Bool, true, false, cond, _&&_, and-eq-true-iff}
+use mathlib.Core.Bool.{Bool, true, false, cond, _&&_, _||_, and-eq-true-iff, true≢false}
 use mathlib.Core.List.{List, [], _∷_}
 
 pub both : {a b : Bool} → a ≡ true → b ≡ true → (a && b) ≡ true
@@ -22,3 +22,7 @@ each a (b ∷ bs) h p =
 pub ways : {A : Type 0} (P : A → Type 0) (b : Bool) {x y : A} → (b ≡ true → P x) → (b ≡ false → P y) → P (cond b x y)
 ways P true t f = t refl
 ways P false t f = f refl
+
+pub neither : (a b : Bool) → (a || b) ≡ false → (a ≡ false) × (b ≡ false)
+neither true b h = absurd (true≢false h)
+neither false b h = (refl, h)

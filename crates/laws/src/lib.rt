@@ -1,0 +1,1 @@
+// No code: laws on tests and choices that several crates' proofs cite.

@@ -1,0 +1,243 @@
+-- What a check's answer tells: an accepted log's entries are sound, a refused one's carried index is the first at fault; and how many
+-- entries of an accepted log are due before a cycle is told by two of them.
+use Prim.Native.Nat.{ℕ, zero, suc, _+_, _-_, _*_, _<_, _≤_}
+use mathlib.Core.Path.{_≡_, refl, sym, ap, subst, _∙_}
+use mathlib.Core.Bool.{Bool, true, false, cond, not, _&&_, _||_, or-true, true≢false}
+use mathlib.Core.List.{List, [], _∷_}
+use native.Mathlib.Decide.{ℕ-discrete}
+use native.Mathlib.Nat.{add-zero, add-suc, le-refl, le-trans}
+use native.Mathlib.Numerals.{add-one}
+use native.Mathlib.Omega.{arith}
+use borrow.Author.Tests.{lt-ltb, le-ltb, le-leb, lt-leb, eq-eqb, ne-eqb, ltb-true, ltb-false, leb-true, leb-false, eqb-true, eqb-false, not-true, not-false}
+use lib.Dec.{eqb, leb, ltb}
+use lib.ListN.{getD, length}
+use Rattle.laws.proofs.Cases.{both, each, neither, ways}
+use Rattle.little.specs.Little.{number}
+use Rattle.refusal.specs.declared.Refusal.{Refusal}
+use Rattle.refusal.specs.declared.Refusal.the-variants.{LogEntry}
+use Rattle.log.specs.Log.{Layout, first, place, checkOf, countOf, cyclesOf, dueAt, dueBefore, dueEarlier, editionOf, faulty, headerOf, offsetOf, scan, standsAt, writeAt, writesFrom}
+use Rattle.log.specs.declared.Checked.{Checked}
+use Rattle.log.specs.declared.Checked.the-variants as checked
+use Rattle.log.specs.declared.Write.{Write}
+
+-- the number of writes
+
+pub writes-length : (l : Layout) (b : List ℕ) (n i : ℕ) → length (writesFrom l b n i) ≡ n
+unfolding writesFrom
+writes-length l b zero i = refl
+writes-length l b (suc n) i = ap suc (writes-length l b n (suc i))
+
+-- the pass
+
+never : {why : Refusal} {n k : ℕ} → checked.Refused why ≡ checked.Log n k → ⊥
+never e = let z : _≡_ {A = ℕ} 0 1 = cc in omega arith
+
+-- one more index, where the first is known and the others are
+ahead : (P : ℕ → Type 0) (n i : ℕ) → P i → ((j : ℕ) → suc i ≤ j → j < suc i + n → P j) → (j : ℕ) → i ≤ j → j < i + suc n → P j
+ahead P n i p r j h g = go (ℕ-discrete i j)
+  where
+    go : Dec (i ≡ j) → P j
+    go (yes e) = subst P e p
+    go (no d) = r j (omega arith) (omega arith)
+
+module _ (l : Layout) (b : List ℕ) (count cycles : ℕ) where
+  abbrev pub Sound : ℕ → ℕ → ℕ → ℕ → Type 0
+  Sound n i c k = (count ≡ c) × (cycles ≡ k) × ((j : ℕ) → i ≤ j → j < i + n → faulty l b cycles j ≡ false)
+
+  sound-step : (n i c k : ℕ) → (scan l b count cycles n (suc i) ≡ checked.Log c k → Sound n (suc i) c k) → (t : Bool) → faulty l b cycles i ≡ t → cond t (checked.Refused (LogEntry i)) (scan l b count cycles n (suc i)) ≡ checked.Log c k → Sound (suc n) i c k
+  sound-step n i c k r true f q = absurd (never q)
+  sound-step n i c k r false f q = let s = r q in (s .0, s .1, ahead (λ (j : ℕ). faulty l b cycles j ≡ false) n i f (s .2))
+
+  pub scan-sound : (n i c k : ℕ) → scan l b count cycles n i ≡ checked.Log c k → Sound n i c k
+  unfolding scan
+  scan-sound zero i c k e = (cc, cc, λ j h g. absurd (omega arith))
+  scan-sound (suc n) i c k e = sound-step n i c k (scan-sound n (suc i) c k) (faulty l b cycles i) refl e
+
+  -- "carries the first such index"
+  pub record First (n i k : ℕ) : Type 0 where
+    pub from : i ≤ k
+    pub before : k < i + n
+    pub fault : faulty l b cycles k ≡ true
+    pub sound : (j : ℕ) → i ≤ j → j < k → faulty l b cycles j ≡ false
+
+  first-step : (n i k : ℕ) → (scan l b count cycles n (suc i) ≡ checked.Refused (LogEntry k) → First n (suc i) k) → (t : Bool) → faulty l b cycles i ≡ t → cond t (checked.Refused (LogEntry i)) (scan l b count cycles n (suc i)) ≡ checked.Refused (LogEntry k) → First (suc n) i k
+  first-step n i k r true f q =
+      let e : i ≡ k = cc in
+      record {
+        from = omega arith;
+        before = omega arith;
+        fault = rw (← e) f;
+        sound = λ j h g. absurd (omega arith);
+      }
+  first-step n i k r false f q =
+      let s = r q in
+      record {
+        from = omega (arith, s .from);
+        before = omega (arith, s .before);
+        fault = s .fault;
+        sound = λ j h g. ahead (λ (m : ℕ). m < k → faulty l b cycles m ≡ false) (j - i) i (λ _. f) (λ m p o t. s .sound m p t) j h (omega arith) g;
+      }
+
+  pub scan-first : (n i k : ℕ) → scan l b count cycles n i ≡ checked.Refused (LogEntry k) → First n i k
+  unfolding scan
+  scan-first zero i k e = absurd (never (sym e))
+  scan-first (suc n) i k e = first-step n i k (scan-first n (suc i) k) (faulty l b cycles i) refl e
+
+-- an accepted log
+
+pub record Accepted (b : List ℕ) (n k : ℕ) : Type 0 where
+  pub count : countOf b ≡ n
+  pub cycles : cyclesOf first b ≡ k
+  pub most : n ≤ 1000000
+  pub size : length b ≡ place first n
+  pub sound : (i : ℕ) → i < n → faulty first b k i ≡ false
+
+module _ (b : List ℕ) (n k : ℕ) where
+  abbrev Told : Checked → Type 0
+  Told c = c ≡ checked.Log n k → Accepted b n k
+
+  scanned : countOf b ≤ 1000000 → length b ≡ place first (countOf b) → Told (scan first b (countOf b) (cyclesOf first b) (countOf b) 0)
+  scanned g z e =
+      let s = scan-sound first b (countOf b) (cyclesOf first b) (countOf b) 0 n k e in
+      record {
+        count = s .0;
+        cycles = s .1;
+        most = omega (arith, s .0);
+        size = z ∙ ap (place first) (s .0);
+        sound = λ i h. subst (λ (c : ℕ). faulty first b c i ≡ false) (s .1) (s .2 i (omega arith) (omega (arith, s .0)));
+      }
+
+  pub accepted : Told (checkOf b)
+  unfolding checkOf
+  accepted =
+      ways Told (ltb (length b) 16) (λ _ e. absurd (never e))
+      (λ _. ways Told (not (eqb (editionOf b) 1)) (λ _ e. absurd (never e))
+      (λ _. ways Told (not (eqb (headerOf b) 16) || not (eqb (offsetOf b) 16)) (λ _ e. absurd (never e))
+      (λ _. ways Told (ltb 1000000 (countOf b)) (λ _ e. absurd (never e))
+      (λ g. ways Told (not (eqb (length b) (place first (countOf b)))) (λ _ e. absurd (never e))
+      (λ z. scanned (ltb-false _ _ g) (eqb-true _ _ (not-false _ z)))))))
+
+-- "Due cycles never fall and are below L."
+
+module _ {b : List ℕ} {n k : ℕ} (a : Accepted b n k) where
+  entry-sound : (i : ℕ) → i < n → (dueAt first b i < k) × (dueEarlier first b i ≤ dueAt first b i)
+  unfolding faulty
+  entry-sound i h =
+      let s = neither (not (eqb (getD b (place first i + 7) 0) 0) || leb k (dueAt first b i)) (ltb (dueAt first b i) (dueEarlier first b i)) (a .sound i h) in
+      let t = neither (not (eqb (getD b (place first i + 7) 0) 0)) (leb k (dueAt first b i)) (s .0) in
+      (leb-false _ _ (t .1), ltb-false _ _ (s .1))
+
+  pub due-below : (i : ℕ) → i < n → dueAt first b i < k
+  due-below i h = entry-sound i h .0
+
+  pub due-rises : (i : ℕ) → suc i < n → dueAt first b i ≤ dueAt first b (suc i)
+  unfolding dueEarlier
+  due-rises i h = entry-sound (suc i) h .1
+
+  -- from one entry to a later one
+  pub due-order : (m i : ℕ) → i + m < n → dueAt first b i ≤ dueAt first b (i + m)
+  due-order zero i h = rw add-zero (le-refl _)
+  due-order (suc m) i h = rw add-suc (le-trans (due-order m i (omega arith)) (due-rises (i + m) (omega arith)))
+
+-- The entries due before a cycle are the first ones, so that two entries tell their number.
+
+module _ {b : List ℕ} {n k : ℕ} (a : Accepted b n k) (c : ℕ) where
+  abbrev amount : ℕ → ℕ → ℕ
+  amount m i = dueBefore (writesFrom first b m i) c
+
+  none-due : (m i : ℕ) → i + m ≤ n → (0 < m → c ≤ dueAt first b i) → amount m i ≡ 0
+  unfolding writesFrom dueBefore writeAt
+  none-due zero i h g = refl
+  none-due (suc m) i h g =
+      rw (le-ltb (dueAt first b i) c (g (omega arith)))
+      (omega (arith, none-due m (suc i) (omega arith) (λ p. le-trans (g (omega arith)) (due-rises a i (omega arith)))))
+
+  record Prefix (m i t : ℕ) : Type 0 where
+    pub most : t ≤ m
+    pub low : (j : ℕ) → i ≤ j → j < i + t → dueAt first b j < c
+    pub high : (j : ℕ) → i + t ≤ j → j < i + m → c ≤ dueAt first b j
+
+  one-more : (m i t : ℕ) → dueAt first b i < c → Prefix m (suc i) t → Prefix (suc m) i (1 + t)
+  one-more m i t g p =
+      record {
+        most = omega (arith, p .most);
+        low = λ j h l. ahead (λ (j : ℕ). dueAt first b j < c) t i g (p .low) j h (omega arith);
+        high = λ j h l. p .high j (omega arith) (omega arith);
+      }
+
+  no-more : (m i : ℕ) → i + suc m ≤ n → c ≤ dueAt first b i → Prefix (suc m) i 0
+  no-more m i h g =
+      record {
+        most = omega arith;
+        low = λ j p l. absurd (omega arith);
+        high = λ j p l. later j (omega arith) l;
+      }
+    where
+      later : (j : ℕ) → i ≤ j → j < i + suc m → c ≤ dueAt first b j
+      later j p l =
+          let e : i + (j - i) ≡ j = omega arith in
+          le-trans g (subst (λ (x : ℕ). dueAt first b i ≤ dueAt first b x) e (due-order a (j - i) i (omega arith)))
+
+  prefix : (m i : ℕ) → i + m ≤ n → Prefix m i (amount m i)
+  unfolding writesFrom dueBefore writeAt
+  prefix zero i h = record { most = omega arith; low = λ j p l. absurd (omega arith); high = λ j p l. absurd (omega arith) }
+  prefix (suc m) i h =
+      ways (λ (x : ℕ). Prefix (suc m) i (x + amount m (suc i))) (ltb (dueAt first b i) c)
+      (λ t. one-more m i (amount m (suc i)) (ltb-true _ _ t) (prefix m (suc i) (omega arith)))
+      (λ f. rw (none-due m (suc i) (omega arith) (λ p. le-trans (ltb-false _ _ f) (due-rises a i (omega arith)))) (no-more m i h (ltb-false _ _ f)))
+
+  -- the number of entries due before c
+  abbrev number-due : ℕ
+  number-due = amount n 0
+
+  all : Prefix n 0 number-due
+  all = prefix n 0 (omega arith)
+
+  earlier-due : (t : ℕ) → ((j : ℕ) → 0 ≤ j → j < 0 + t → dueAt first b j < c) → (eqb t 0 || ltb (dueEarlier first b t) c) ≡ true
+  unfolding dueEarlier
+  earlier-due zero l = refl
+  earlier-due (suc u) l = rw (lt-ltb (dueAt first b u) c (l u (omega arith) (omega arith))) (or-true (eqb (suc u) 0))
+
+  next-due : (leb n number-due || leb c (dueAt first b number-due)) ≡ true
+  next-due = go (leb n number-due) refl
+    where
+      go : (t : Bool) → leb n number-due ≡ t → (t || leb c (dueAt first b number-due)) ≡ true
+      go true e = refl
+      go false e = le-leb _ _ (all .high number-due (omega arith) (omega (arith, leb-false n number-due e)))
+
+  stands-here : standsAt first b n c number-due ≡ true
+  unfolding standsAt
+  stands-here = both (both (le-leb _ _ (all .most)) (earlier-due number-due (all .low))) next-due
+
+  -- no other number stands there
+
+  not-below : (t : ℕ) → t < number-due → (leb n t || leb c (dueAt first b t)) ≡ true → ⊥
+  not-below t h e =
+      let g : (leb n t || leb c (dueAt first b t)) ≡ false =
+      rw (lt-leb n t (omega (arith, all .most)), lt-leb c (dueAt first b t) (all .low t (omega arith) (omega arith))) in
+      true≢false (sym e ∙ g)
+
+  not-above : (t : ℕ) → number-due < t → t ≤ n → (eqb t 0 || ltb (dueEarlier first b t) c) ≡ true → ⊥
+  unfolding dueEarlier
+  not-above zero h l e = omega arith
+  not-above (suc u) h l e =
+      let g : (eqb (suc u) 0 || ltb (dueAt first b u) c) ≡ false =
+      rw (ne-eqb (suc u) 0 (omega arith), le-ltb (dueAt first b u) c (all .high u (omega arith) (omega arith))) in
+      true≢false (sym e ∙ g)
+
+  stands-only : (t : ℕ) → standsAt first b n c t ≡ true → t ≡ number-due
+  unfolding standsAt
+  stands-only t s =
+      each (leb t n) ((eqb t 0 || ltb (dueEarlier first b t) c) ∷ (leb n t || leb c (dueAt first b t)) ∷ []) s
+      (λ f.
+      let low : t < number-due → ⊥ = λ h. not-below t h (f .1 .1 .0) in
+      let high : number-due < t → ⊥ = λ h. not-above t h (leb-true _ _ (f .0)) (f .1 .0) in
+      omega arith)
+
+  -- two reads of an accepted log tell whether t is the number of entries due before c
+  pub stands : (t : ℕ) → standsAt first b n c t ≡ eqb t number-due
+  stands t = go (standsAt first b n c t) refl
+    where
+      go : (s : Bool) → standsAt first b n c t ≡ s → s ≡ eqb t number-due
+      go true e = sym (eq-eqb _ _ (stands-only t e))
+      go false e = sym (ne-eqb _ _ (λ q. true≢false (sym stands-here ∙ subst (λ (x : ℕ). standsAt first b n c x ≡ false) q e)))

@@ -1,0 +1,175 @@
+-- Laws of specs/Log.antt.
+use Prim.Native.Nat.{ℕ, zero, suc, _+_, _-_, _*_, _<_, _≤_}
+use mathlib.Core.Path.{_≡_, refl, sym, ap, _∙_}
+use mathlib.Core.Bool.{Bool, true, false, cond, not, _&&_, _||_}
+use mathlib.Core.List.{List, [], _∷_}
+use native.Mathlib.Numerals.{add-one}
+use native.Mathlib.Omega.{arith}
+use borrow.Author.Tests.{lt-ltb, le-ltb, eq-eqb, ne-eqb}
+use lib.Dec.{eqb, leb, ltb}
+use lib.ListN.{getD, length}
+use Rattle.laws.proofs.Cases.{ways}
+use Rattle.little.specs.Little.{number}
+use Rattle.refusal.specs.declared.Refusal.{Refusal}
+use Rattle.refusal.specs.declared.Refusal.the-variants.{LogShort, LogEdition, LogHeader, LogCount, LogSize, LogEntry}
+use Rattle.log.specs.Log.{Layout, first, place, checkNumber, checkedNumber, countedNumber, readNumber, scanNumber, dueBefore, dueBeforeOf, countIn, entryIn, entryOf, writesFrom, checkOf, countOf, cyclesOf, dueAt, dueEarlier, editionOf, faulty, headerOf, offsetOf, scan, writeAt}
+use Rattle.log.specs.declared.Checked.{Checked}
+use Rattle.log.specs.declared.Checked.the-variants as checked
+use Rattle.log.specs.declared.Counted.{Counted}
+use Rattle.log.specs.declared.Counted.the-variants as counts
+use Rattle.log.specs.declared.Read.{Read}
+use Rattle.log.specs.declared.Read.the-variants as entries
+use Rattle.log.specs.declared.Write.{Write}
+
+-- the pass over the entries
+
+module _ (b : List ℕ) (count cycles i : ℕ) where
+  -- what the loop tests is whether entry i is at fault
+  pub tested : {at byte due before : ℕ} → at ≡ place first i → byte ≡ getD b (at + 7) 0 → due ≡ number 4 b at → before ≡ dueEarlier first b i → {t : Bool} → (not (eqb byte 0) || leb cycles due || ltb due before) ≡ t → faulty first b cycles i ≡ t
+  unfolding faulty dueAt
+  tested p q r s e = rw (q, r, p, s) at e
+
+  left : i < count → count - i ≡ suc (count - (i + 1))
+  left h = omega arith
+
+  pub scan-fault : i < count → faulty first b cycles i ≡ true → scan first b count cycles (count - i) i ≡ checked.Refused (LogEntry i)
+  unfolding scan
+  scan-fault h f = rw (left h, f)
+
+  pub scan-on : i < count → faulty first b cycles i ≡ false → scan first b count cycles (count - i) i ≡ scan first b count cycles (count - (i + 1)) (i + 1)
+  unfolding scan
+  scan-on h f = rw (left h, f, add-one i)
+
+  pub scan-end : count ≤ i → scan first b count cycles (count - i) i ≡ checked.Log count cycles
+  unfolding scan
+  scan-end h = let z : count - i ≡ 0 = omega arith in rw z
+
+pub earlier-next : (b : List ℕ) (i : ℕ) {at due : ℕ} → at ≡ place first i → due ≡ number 4 b at → due ≡ dueEarlier first b (i + 1)
+unfolding dueEarlier dueAt
+earlier-next b i p q = rw (add-one i, q, p)
+
+-- the header, refusal by refusal: each law has the tests before it passed
+
+module _ (b : List ℕ) where
+  pub check-short : length b < 16 → checked.Refused LogShort ≡ checkOf b
+  unfolding checkOf
+  check-short h = rw (lt-ltb (length b) 16 h)
+
+  module _ (l : 16 ≤ length b) {e : ℕ} (p : e ≡ editionOf b) where
+    pub check-edition : (e ≡ 1 → ⊥) → checked.Refused LogEdition ≡ checkOf b
+    unfolding checkOf
+    check-edition n = rw (le-ltb (length b) 16 l, ← p, ne-eqb e 1 n)
+
+    module _ (v : e ≡ 1) {h o : ℕ} (q : h ≡ headerOf b) (r : o ≡ offsetOf b) where
+      pub check-header : (not (eqb h 16) || not (eqb o 16)) ≡ true → checked.Refused LogHeader ≡ checkOf b
+      unfolding checkOf
+      check-header t = rw (le-ltb (length b) 16 l, ← p, eq-eqb e 1 v, ← q, ← r, t)
+
+      module _ (t : (not (eqb h 16) || not (eqb o 16)) ≡ false) {c : ℕ} (s : c ≡ countOf b) where
+        pub check-count : 1000000 < c → checked.Refused LogCount ≡ checkOf b
+        unfolding checkOf
+        check-count g = rw (le-ltb (length b) 16 l, ← p, eq-eqb e 1 v, ← q, ← r, t, ← s, lt-ltb 1000000 c g)
+
+        module _ (g : c ≤ 1000000) {z : ℕ} (w : z ≡ place first c) where
+          pub check-size : (length b ≡ z → ⊥) → checked.Refused LogSize ≡ checkOf b
+          unfolding checkOf
+          check-size n =
+              rw (le-ltb (length b) 16 l, ← p, eq-eqb e 1 v, ← q, ← r, t, ← s, le-ltb 1000000 c g, ← w, ne-eqb (length b) z n)
+
+          pub check-scan : length b ≡ z → {k : ℕ} → k ≡ cyclesOf first b → scan first b c k c 0 ≡ checkOf b
+          unfolding checkOf
+          check-scan n x =
+              rw
+              (le-ltb (length b) 16 l, ← p, eq-eqb e 1 v, ← q, ← r, t, ← s, le-ltb 1000000 c g, ← w, eq-eqb (length b) z n, ← x)
+
+-- counting, from the front
+
+module _ (b : List ℕ) (count cycle i : ℕ) where
+  -- what entry i adds to the number of those due before the cycle
+  counted : {d : ℕ} → i < count → d ≡ dueAt first b i → dueBefore (writesFrom first b (count - i) i) cycle ≡ cond (ltb d cycle) 1 0 + dueBefore (writesFrom first b (count - (i + 1)) (i + 1)) cycle
+  unfolding writesFrom dueBefore writeAt
+  counted {d} h e = rw (left b count cycle i h, ← e, add-one i)
+
+  module _ (n : ℕ) {whole d : ℕ} (h : i < count) (p : n + dueBefore (writesFrom first b (count - i) i) cycle ≡ whole) (e : d ≡ dueAt first b i) where
+    pub count-one : d < cycle → n + 1 + dueBefore (writesFrom first b (count - (i + 1)) (i + 1)) cycle ≡ whole
+    count-one g = omega (arith, p, rw (lt-ltb d cycle g) at (counted h e))
+
+    pub count-none : cycle ≤ d → n + dueBefore (writesFrom first b (count - (i + 1)) (i + 1)) cycle ≡ whole
+    count-none g = omega (arith, p, rw (le-ltb d cycle g) at (counted h e))
+
+  pub count-end : count ≤ i → dueBefore (writesFrom first b (count - i) i) cycle ≡ 0
+  unfolding writesFrom dueBefore
+  count-end h = let z : count - i ≡ 0 = omega arith in rw z
+
+pub earlier-of : (b : List ℕ) (i : ℕ) → (i ≡ 0 → ⊥) → {d : ℕ} → d ≡ dueAt first b (i - 1) → d ≡ dueEarlier first b i
+unfolding dueEarlier
+earlier-of b zero n e = absurd (n refl)
+earlier-of b (suc i) n e = e ∙ ap (dueAt first b) (omega arith)
+
+-- the answers of the calls that check first
+
+module _ {c : Checked} (b : List ℕ) where
+  pub entry-read : {count cycles i : ℕ} {w : Write} → c ≡ checkOf b → c ≡ checked.Log count cycles → i < count → w ≡ writeAt first b i → entries.Write w ≡ entryOf b i
+  unfolding entryIn
+  entry-read {i = i} p q h e = rw (← p, q, lt-ltb _ _ h, e)
+
+  pub entry-ended : {count cycles i : ℕ} → c ≡ checkOf b → c ≡ checked.Log count cycles → count ≤ i → entries.Ended ≡ entryOf b i
+  unfolding entryIn
+  entry-ended p q h = rw (← p, q, le-ltb _ _ h)
+
+  pub entry-refused : {why : Refusal} (i : ℕ) → c ≡ checkOf b → c ≡ checked.Refused why → entries.Refused why ≡ entryOf b i
+  unfolding entryIn
+  entry-refused i p q = rw (← p, q)
+
+  pub counted-in : {count cycles n : ℕ} (cycle : ℕ) → c ≡ checkOf b → c ≡ checked.Log count cycles → n ≡ dueBefore (writesFrom first b count 0) cycle → counts.Number n ≡ dueBeforeOf b cycle
+  unfolding countIn
+  counted-in cycle p q e = rw (← p, q, e)
+
+  pub counted-refused : {why : Refusal} (cycle : ℕ) → c ≡ checkOf b → c ≡ checked.Refused why → counts.Refused why ≡ dueBeforeOf b cycle
+  unfolding countIn
+  counted-refused cycle p q = rw (← p, q)
+
+pub count-start : (b : List ℕ) (count cycle : ℕ) → 0 + dueBefore (writesFrom first b (count - 0) 0) cycle ≡ dueBefore (writesFrom first b count 0) cycle
+count-start b count cycle = let z : count - 0 ≡ count = omega arith in rw z (omega arith)
+
+-- the numbers
+
+chosen : {A B : Type 0} (f : A → B) (t : Bool) {x y : A} {u v : B} → f x ≡ u → f y ≡ v → f (cond t x y) ≡ cond t u v
+chosen f true p q = p
+chosen f false p q = q
+
+scan-number : (l : Layout) (b : List ℕ) (count cycles n i : ℕ) → checkedNumber (scan l b count cycles n i) ≡ scanNumber l b cycles n i
+unfolding scan scanNumber
+scan-number l b count cycles zero i = refl
+scan-number l b count cycles (suc n) i =
+    chosen checkedNumber (faulty l b cycles i) {x = checked.Refused (LogEntry i)} refl (scan-number l b count cycles n (suc i))
+
+module _ (b : List ℕ) where
+  check-number : checkedNumber (checkOf b) ≡ checkNumber b
+  unfolding checkOf checkNumber
+  check-number =
+      chosen checkedNumber (ltb (length b) 16) {x = checked.Refused LogShort} refl
+      (chosen checkedNumber (not (eqb (editionOf b) 1)) {x = checked.Refused LogEdition} refl
+      (chosen checkedNumber (not (eqb (headerOf b) 16) || not (eqb (offsetOf b) 16)) {x = checked.Refused LogHeader} refl
+      (chosen checkedNumber (ltb 1000000 (countOf b)) {x = checked.Refused LogCount} refl
+      (chosen checkedNumber (not (eqb (length b) (place first (countOf b)))) {x = checked.Refused LogSize} refl
+      (scan-number first b (countOf b) (cyclesOf first b) (countOf b) 0)))))
+
+  pub numbered : {r : Checked} → r ≡ checkOf b → (r ≡ checkOf b) × (checkedNumber r ≡ checkNumber b)
+  numbered e = (e, ap checkedNumber e ∙ check-number)
+
+  read-number : (c : Checked) (i : ℕ) → readNumber (entryIn c b i) ≡ checkedNumber c
+  unfolding entryIn
+  read-number (checked.Log count cycles) i = ways (λ (r : Read). readNumber r ≡ 0) (ltb i count) (λ _. refl) (λ _. refl)
+  read-number (checked.Refused why) i = refl
+
+  pub read-numbered : {r : Read} (i : ℕ) → r ≡ entryOf b i → (r ≡ entryOf b i) × (readNumber r ≡ checkNumber b)
+  read-numbered i e = (e, ap readNumber e ∙ read-number (checkOf b) i ∙ check-number)
+
+  counted-number : (c : Checked) (cycle : ℕ) → countedNumber (countIn c b cycle) ≡ checkedNumber c
+  unfolding countIn
+  counted-number (checked.Log count cycles) cycle = refl
+  counted-number (checked.Refused why) cycle = refl
+
+  pub counted-numbered : {r : Counted} (cycle : ℕ) → r ≡ dueBeforeOf b cycle → (r ≡ dueBeforeOf b cycle) × (countedNumber r ≡ checkNumber b)
+  counted-numbered cycle e = (e, ap countedNumber e ∙ counted-number (checkOf b) cycle ∙ check-number)

@@ -1,0 +1,64 @@
+use Prim.Native.Nat.{ℕ, _≤_, _-_}
+use mathlib.Core.Path.{_≡_, refl, sym, ap, _∙_}
+use borrow.Author.Needs.{needs}
+use native.Mathlib.Omega.{arith}
+use denote.Ref.{now}
+use Rattle.log.proofs.LogLaws as laws
+use Rattle.log.specs.Log.{first, dueEarlier, scan}
+use Rattle.log.proofs.check_entries.Statement.{statement}
+use Rattle.log.proofs.check_entries.Tie as tie
+
+abbrev Inv-loop : tie.InvT-loop
+Inv-loop log count cycles before₀ i₀ before i =
+    (i ≤ count) × (before ≡ dueEarlier first log i) × (scan first log count cycles count 0 ≡ scan first log count cycles (count - i) i)
+
+abbrev μ-loop : tie.MeasureT-loop
+μ-loop log count cycles before₀ i₀ before i = count - i
+
+loop-holds : tie.Need-loop-holds Inv-loop μ-loop
+unfolding dueEarlier
+loop-holds c = (search needs, refl, ap (λ (k : ℕ). scan first (now (c .before .args .log)) (c .before .args .count) (c .before .args .cycles) k 0) (omega arith))
+
+place-requires : tie.Need-place-requires Inv-loop μ-loop
+place-requires c κs = search needs
+
+u32-at-requires : tie.Need-u32-at-requires Inv-loop μ-loop
+u32-at-requires c κs = search needs
+
+add-byte-at : tie.Need-add-byte-at Inv-loop μ-loop
+add-byte-at c = omega (arith, c .before .place .ensures)
+
+byte-at-requires : tie.Need-byte-at-requires Inv-loop μ-loop
+byte-at-requires c κs = search needs
+
+returns : tie.Need-returns Inv-loop μ-loop
+returns c = sym (((c .before .before .before .before .before .loop .inv) .2) ∙ laws.scan-fault (now (c .before .before .before .before .before .before .before .args .log)) (c .before .before .before .before .before .before .before .args .count) (c .before .before .before .before .before .before .before .args .cycles) (c .before .before .before .before .before .loop .i) (c .before .before .before .before .loop-test .taken) (laws.tested (now (c .before .before .before .before .before .before .before .args .log)) (c .before .before .before .before .before .before .before .args .count) (c .before .before .before .before .before .before .before .args .cycles) (c .before .before .before .before .before .loop .i) (c .before .before .before .place .ensures) (c .before .byte-at .ensures) (c .before .before .u32-at .ensures) ((c .before .before .before .before .before .loop .inv) .1) (c .if1 .taken)))
+
+add-i : tie.Need-add-i Inv-loop μ-loop
+add-i c = search needs
+
+loop-less : tie.Need-loop-less Inv-loop μ-loop
+loop-less c = search needs
+
+loop-again : tie.Need-loop-again Inv-loop μ-loop
+loop-again c = (search needs, laws.earlier-next (now (c .before .before .before .before .before .before .before .args .log)) (c .before .before .before .before .before .loop .i) (c .before .before .before .place .ensures) (c .before .before .u32-at .ensures), ((c .before .before .before .before .before .loop .inv) .2) ∙ laws.scan-on (now (c .before .before .before .before .before .before .before .args .log)) (c .before .before .before .before .before .before .before .args .count) (c .before .before .before .before .before .before .before .args .cycles) (c .before .before .before .before .before .loop .i) (c .before .before .before .before .loop-test .taken) (laws.tested (now (c .before .before .before .before .before .before .before .args .log)) (c .before .before .before .before .before .before .before .args .count) (c .before .before .before .before .before .before .before .args .cycles) (c .before .before .before .before .before .loop .i) (c .before .before .before .place .ensures) (c .before .byte-at .ensures) (c .before .before .u32-at .ensures) ((c .before .before .before .before .before .loop .inv) .1) (c .if1 .left)))
+
+returns-2 : tie.Need-returns-2 Inv-loop μ-loop
+returns-2 c = sym (((c .before .loop .inv) .2) ∙ laws.scan-end (now (c .before .before .before .args .log)) (c .before .before .before .args .count) (c .before .before .before .args .cycles) (c .before .loop .i) (c .loop-test .left))
+
+pub check-entries-spec : {M : Type 1} → statement M
+check-entries-spec =
+    tie.close
+    (tie.spec
+    Inv-loop
+    μ-loop
+    loop-holds
+    place-requires
+    u32-at-requires
+    add-byte-at
+    byte-at-requires
+    returns
+    add-i
+    loop-less
+    loop-again
+    returns-2)

@@ -1,0 +1,164 @@
+// The register log: bytes checked once, and read as writes.
+use refusal::Refusal;
+ghost use mathlib.Core.Path.{_≡_};
+ghost use mathlib.Core.Bool.{true};
+ghost use Prim.Native.Nat.{_≤_};
+ghost use Rattle.log.specs.Log.{first, place, checkOf, scan, writeAt, dueAt, dueBefore, writesFrom, entryOf, dueBeforeOf, dueEarlier, standsAt, checkedNumber, checkNumber, readNumber, countedNumber};
+
+pub struct Write {
+    pub due: u32,
+    pub address: u16,
+    pub byte: u8,
+}
+
+// What a check answers: the number of entries and L, or the refusal.
+pub enum Checked {
+    Log { count: u32, cycles: u32 },
+    Refused(Refusal),
+}
+
+// What reading an entry answers.
+pub enum Read {
+    Write(Write),
+    Ended,
+    Refused(Refusal),
+}
+
+// What counting the entries due before a cycle answers.
+pub enum Counted {
+    Number(u32),
+    Refused(Refusal),
+}
+
+fn place(index: u32) -> usize
+    ensures { λ r. ⌜ r ≡ place first index ⌝ }
+{
+    16 + 8 * (index as usize)
+}
+
+// The due cycle of an entry; of bytes that aren't there, 0.
+pub fn due_at(log: &[u8], index: u32) -> u32
+    ensures { λ r. ⌜ r ≡ dueAt first (now (log .entry)) index ⌝ }
+{
+    little::u32_at(log, place(index))
+}
+
+// An entry's write; of bytes that aren't there, zeros.
+pub fn write_at(log: &[u8], index: u32) -> Write
+    ensures { λ r. ⌜ r ≡ writeAt first (now (log .entry)) index ⌝ }
+{
+    let at = place(index);
+    Write {
+        due: little::u32_at(log, at),
+        address: little::u16_at(log, at + 4),
+        byte: little::byte_at(log, at + 6),
+    }
+}
+
+fn check_entries(log: &[u8], count: u32, cycles: u32) -> Checked
+    requires { ⌜ count ≤ 1000000 ⌝ }
+    ensures { λ r. ⌜ r ≡ scan first (now (log .entry)) count cycles count 0 ⌝ }
+{
+    let mut before = 0;
+    let mut i = 0;
+    while i < count {
+        let at = place(i);
+        let due = little::u32_at(log, at);
+        if (little::byte_at(log, at + 7) != 0) | (due >= cycles) | (due < before) {
+            return Checked::Refused(Refusal::LogEntry(i));
+        }
+        before = due;
+        i += 1;
+    }
+    Checked::Log {
+        count: count,
+        cycles: cycles,
+    }
+}
+
+// Refusals 3 to 8, or the number of entries and L.
+pub fn check_log(log: &[u8]) -> Checked
+    ensures { λ r. ⌜ r ≡ checkOf (now (log .entry)) ⌝ }
+    ensures { λ r. ⌜ checkedNumber r ≡ checkNumber (now (log .entry)) ⌝ }
+{
+    if log.len() < 16 {
+        return Checked::Refused(Refusal::LogShort);
+    }
+    if little::u16_at(log, 0) != 1 {
+        return Checked::Refused(Refusal::LogEdition);
+    }
+    if (little::u16_at(log, 2) != 16) | (little::u32_at(log, 8) != 16) {
+        return Checked::Refused(Refusal::LogHeader);
+    }
+    let count = little::u32_at(log, 4);
+    if count > 1_000_000 {
+        return Checked::Refused(Refusal::LogCount);
+    }
+    if log.len() != place(count) {
+        return Checked::Refused(Refusal::LogSize);
+    }
+    check_entries(log, count, little::u32_at(log, 12))
+}
+
+// The write of an entry, or that the log has ended.
+pub fn entry(log: &[u8], index: u32) -> Read
+    ensures { λ r. ⌜ r ≡ entryOf (now (log .entry)) index ⌝ }
+    ensures { λ r. ⌜ readNumber r ≡ checkNumber (now (log .entry)) ⌝ }
+{
+    let c = check_log(log);
+    match c {
+        Checked::Log { count, cycles: _ } => {
+            if index < count {
+                return Read::Write(write_at(log, index));
+            }
+            Read::Ended
+        }
+        Checked::Refused(why) => Read::Refused(why),
+    }
+}
+
+fn count_due(log: &[u8], count: u32, cycle: u32) -> u32
+    ensures { λ r. ⌜ r ≡ dueBefore (writesFrom first (now (log .entry)) count 0) cycle ⌝ }
+{
+    let mut n = 0;
+    let mut i = 0;
+    while i < count {
+        let due = due_at(log, i);
+        i += 1;
+        if due < cycle {
+            n += 1;
+        }
+    }
+    n
+}
+
+// The number of entries due before a cycle.
+pub fn due_before(log: &[u8], cycle: u32) -> Counted
+    ensures { λ r. ⌜ r ≡ dueBeforeOf (now (log .entry)) cycle ⌝ }
+    ensures { λ r. ⌜ countedNumber r ≡ checkNumber (now (log .entry)) ⌝ }
+{
+    let c = check_log(log);
+    match c {
+        Checked::Log { count, cycles: _ } => Counted::Number(count_due(log, count, cycle)),
+        Checked::Refused(why) => Counted::Refused(why),
+    }
+}
+
+// The due cycle of the entry before, 0 for the first.
+fn due_earlier(log: &[u8], index: u32) -> u32
+    ensures { λ r. ⌜ r ≡ dueEarlier first (now (log .entry)) index ⌝ }
+{
+    if index == 0 {
+        return 0;
+    }
+    due_at(log, index - 1)
+}
+
+// Whether `number` entries of an accepted log of `count` are due before `cycle`, by two reads and no pass.
+pub fn stands_at(log: &[u8], count: u32, cycle: u32, number: u32) -> bool
+    ensures { λ r. ⌜ r ≡ standsAt first (now (log .entry)) count cycle number ⌝ }
+{
+    let earlier = due_earlier(log, number);
+    let next = due_at(log, number);
+    (number <= count) & ((number == 0) | (earlier < cycle)) & ((count <= number) | (cycle <= next))
+}
