@@ -1,5 +1,5 @@
 use oracle::stream::Maker;
-use oracle::{bench, constants, explain, random, replay, sample};
+use oracle::{bench, constants, explain, logcases, logstream, random, replay, sample};
 use std::io::{BufWriter, Read, Write};
 use std::process::exit;
 
@@ -8,7 +8,10 @@ const USAGE: &str = "usage: oracle constants
        oracle random SEED CASES [MAXCYCLES]   a stream of random cases, none longer than MAXCYCLES
        oracle replay                          replays a stream from standard input on the Rust itself
        oracle explain [OP]                    prints a stream to read; all fields after op number OP
-       oracle bench CYCLES";
+       oracle bench CYCLES
+       oracle logs SEED CASES                 a stream of random and damaged logs
+       oracle logsample                       the stored sample of logs, to standard output
+       oracle logreplay                       replays a stream of logs from standard input on the oracle's own reading";
 
 fn main() {
     let words: Vec<String> = std::env::args().skip(1).collect();
@@ -22,6 +25,9 @@ fn main() {
         ["explain"] => run_explain(None),
         ["explain", op] => run_explain(Some(number(op))),
         ["bench", cycles] => println!("{}", bench::bench(number(cycles) as usize)),
+        ["logs", seed, cases] => write_logs(number(seed), number(cases)),
+        ["logsample"] => write_logsample(),
+        ["logreplay"] => run_logreplay(),
         _ => fail(USAGE),
     }
 }
@@ -68,6 +74,46 @@ fn write_random(seed: u64, cases: u64, max_cycles: u32) {
     maker.end();
     if out.write_all(&maker.bytes).and_then(|_| out.flush()).is_ok() {
         eprintln!("made {}", maker.totals);
+    }
+}
+
+fn write_logs(seed: u64, cases: u64) {
+    let mut out = BufWriter::new(std::io::stdout().lock());
+    let mut maker = logstream::Maker::new();
+    let mut numbers = random::Numbers::new(seed);
+    for _ in 0..cases {
+        logcases::case(&mut maker, &mut numbers);
+        if out.write_all(&maker.bytes).is_err() {
+            return;
+        }
+        maker.bytes.clear();
+    }
+    maker.end();
+    if out.write_all(&maker.bytes).and_then(|_| out.flush()).is_ok() {
+        eprintln!("made {}", maker.totals);
+    }
+}
+
+fn write_logsample() {
+    let mut maker = logstream::Maker::new();
+    for (name, part) in logcases::PARTS {
+        let (bytes, before) = (maker.bytes.len(), maker.totals);
+        part(&mut maker);
+        let (logs, checks) = (maker.totals.logs - before.logs, maker.totals.checks - before.checks);
+        eprintln!("{name}: {} bytes {logs} logs {checks} checks", maker.bytes.len() - bytes);
+    }
+    maker.end();
+    put(&maker.bytes);
+    eprintln!("made {}", maker.totals);
+}
+
+fn run_logreplay() {
+    match logstream::replay(&read_in()) {
+        Ok(totals) => println!("agreed {totals}"),
+        Err(text) => {
+            println!("differs {text}");
+            exit(1);
+        }
     }
 }
 

@@ -27,6 +27,11 @@ impl Numbers {
         ((self.next() >> 32) * n as u64 >> 32) as u32
     }
 
+    /// any number of 32 bits
+    pub fn word(&mut self) -> u32 {
+        (self.next() >> 32) as u32
+    }
+
     /// true once in n
     pub fn one_in(&mut self, n: u32) -> bool {
         self.below(n) == 0
@@ -81,7 +86,7 @@ impl Numbers {
         }
     }
 
-    fn byte(&mut self) -> u8 {
+    pub fn byte(&mut self) -> u8 {
         match self.below(8) {
             0 => 0x00,
             1 => 0xFF,
