@@ -2,7 +2,9 @@
 use refusal::Refusal;
 ghost use mathlib.Core.Path.{_≡_};
 ghost use mathlib.Core.Bool.{true};
-ghost use Prim.Native.Nat.{_≤_};
+ghost use Prim.Native.Nat.{_+_, _<_, _≤_};
+ghost use lib.ListN.{length};
+ghost use Rattle.little.specs.Little.{number};
 ghost use Rattle.log.specs.Log.{first, place, checkOf, scan, writeAt, dueAt, dueBefore, writesFrom, entryOf, dueBeforeOf, dueEarlier, standsAt, checkedNumber, checkNumber, readNumber, countedNumber};
 
 pub struct Write {
@@ -55,16 +57,33 @@ pub fn write_at(log: &[u8], index: u32) -> Write
     }
 }
 
+fn wide(x: u8) -> u32
+    ensures { λ r. ⌜ (r ≡ x) × (r < 256) ⌝ }
+{
+    x as u32
+}
+
+// The due cycle at a place that is known to be in the log: one load, where `due_at` tests each byte's place.
+fn due_in(log: &[u8], at: usize) -> u32
+    requires { ⌜ at + 3 < length (now log) ⌝ }
+    ensures { λ r. ⌜ r ≡ number 4 (now (log .entry)) at ⌝ }
+{
+    wide(log[at])
+        + 256 * wide(log[at + 1])
+        + 65_536 * wide(log[at + 2])
+        + 16_777_216 * wide(log[at + 3])
+}
+
 fn check_entries(log: &[u8], count: u32, cycles: u32) -> Checked
-    requires { ⌜ count ≤ 1000000 ⌝ }
+    requires { ⌜ (count ≤ 1000000) × (length (now log) ≡ place first count) ⌝ }
     ensures { λ r. ⌜ r ≡ scan first (now (log .entry)) count cycles count 0 ⌝ }
 {
     let mut before = 0;
     let mut i = 0;
     while i < count {
         let at = place(i);
-        let due = little::u32_at(log, at);
-        if (little::byte_at(log, at + 7) != 0) | (due >= cycles) | (due < before) {
+        let due = due_in(log, at);
+        if (log[at + 7] != 0) | (due >= cycles) | (due < before) {
             return Checked::Refused(Refusal::LogEntry(i));
         }
         before = due;

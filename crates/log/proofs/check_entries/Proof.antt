@@ -22,17 +22,17 @@ loop-holds c = (search needs, refl, ap (λ (k : ℕ). scan first (now (c .before
 place-requires : tie.Need-place-requires Inv-loop μ-loop
 place-requires c κs = search needs
 
-u32-at-requires : tie.Need-u32-at-requires Inv-loop μ-loop
-u32-at-requires c κs = search needs
+due-in-requires : tie.Need-due-in-requires Inv-loop μ-loop
+due-in-requires c κs = search needs
 
-add-byte-at : tie.Need-add-byte-at Inv-loop μ-loop
-add-byte-at c = omega (arith, c .before .place .ensures)
+add-if1 : tie.Need-add-if1 Inv-loop μ-loop
+add-if1 c = search needs
 
-byte-at-requires : tie.Need-byte-at-requires Inv-loop μ-loop
-byte-at-requires c κs = search needs
+shared-slice-read-if1 : tie.Need-shared-slice-read-if1 Inv-loop μ-loop
+shared-slice-read-if1 c = search needs
 
 returns : tie.Need-returns Inv-loop μ-loop
-returns c = sym (((c .before .before .before .before .before .loop .inv) .2) ∙ laws.scan-fault (now (c .before .before .before .before .before .before .before .args .log)) (c .before .before .before .before .before .before .before .args .count) (c .before .before .before .before .before .before .before .args .cycles) (c .before .before .before .before .before .loop .i) (c .before .before .before .before .loop-test .taken) (laws.tested (now (c .before .before .before .before .before .before .before .args .log)) (c .before .before .before .before .before .before .before .args .count) (c .before .before .before .before .before .before .before .args .cycles) (c .before .before .before .before .before .loop .i) (c .before .before .before .place .ensures) (c .before .byte-at .ensures) (c .before .before .u32-at .ensures) ((c .before .before .before .before .before .loop .inv) .1) (c .if1 .taken)))
+returns c = sym (((c .before .before .before .before .before .loop .inv) .2) ∙ laws.scan-fault (now (c .before .before .before .before .before .before .before .args .log)) (c .before .before .before .before .before .before .before .args .count) (c .before .before .before .before .before .before .before .args .cycles) (c .before .before .before .before .before .loop .i) (c .before .before .before .before .loop-test .taken) (laws.tested (now (c .before .before .before .before .before .before .before .args .log)) (c .before .before .before .before .before .before .before .args .count) (c .before .before .before .before .before .before .before .args .cycles) (c .before .before .before .before .before .loop .i) (c .before .before .before .place .ensures) refl (c .before .before .due-in .ensures) ((c .before .before .before .before .before .loop .inv) .1) (c .if1 .taken)))
 
 add-i : tie.Need-add-i Inv-loop μ-loop
 add-i c = search needs
@@ -41,7 +41,7 @@ loop-less : tie.Need-loop-less Inv-loop μ-loop
 loop-less c = search needs
 
 loop-again : tie.Need-loop-again Inv-loop μ-loop
-loop-again c = (search needs, laws.earlier-next (now (c .before .before .before .before .before .before .before .args .log)) (c .before .before .before .before .before .loop .i) (c .before .before .before .place .ensures) (c .before .before .u32-at .ensures), ((c .before .before .before .before .before .loop .inv) .2) ∙ laws.scan-on (now (c .before .before .before .before .before .before .before .args .log)) (c .before .before .before .before .before .before .before .args .count) (c .before .before .before .before .before .before .before .args .cycles) (c .before .before .before .before .before .loop .i) (c .before .before .before .before .loop-test .taken) (laws.tested (now (c .before .before .before .before .before .before .before .args .log)) (c .before .before .before .before .before .before .before .args .count) (c .before .before .before .before .before .before .before .args .cycles) (c .before .before .before .before .before .loop .i) (c .before .before .before .place .ensures) (c .before .byte-at .ensures) (c .before .before .u32-at .ensures) ((c .before .before .before .before .before .loop .inv) .1) (c .if1 .left)))
+loop-again c = (search needs, laws.earlier-next (now (c .before .before .before .before .before .before .before .args .log)) (c .before .before .before .before .before .loop .i) (c .before .before .before .place .ensures) (c .before .before .due-in .ensures), ((c .before .before .before .before .before .loop .inv) .2) ∙ laws.scan-on (now (c .before .before .before .before .before .before .before .args .log)) (c .before .before .before .before .before .before .before .args .count) (c .before .before .before .before .before .before .before .args .cycles) (c .before .before .before .before .before .loop .i) (c .before .before .before .before .loop-test .taken) (laws.tested (now (c .before .before .before .before .before .before .before .args .log)) (c .before .before .before .before .before .before .before .args .count) (c .before .before .before .before .before .before .before .args .cycles) (c .before .before .before .before .before .loop .i) (c .before .before .before .place .ensures) refl (c .before .before .due-in .ensures) ((c .before .before .before .before .before .loop .inv) .1) (c .if1 .left)))
 
 returns-2 : tie.Need-returns-2 Inv-loop μ-loop
 returns-2 c = sym (((c .before .loop .inv) .2) ∙ laws.scan-end (now (c .before .before .before .args .log)) (c .before .before .before .args .count) (c .before .before .before .args .cycles) (c .before .loop .i) (c .loop-test .left))
@@ -54,9 +54,9 @@ check-entries-spec =
     μ-loop
     loop-holds
     place-requires
-    u32-at-requires
-    add-byte-at
-    byte-at-requires
+    due-in-requires
+    add-if1
+    shared-slice-read-if1
     returns
     add-i
     loop-less
