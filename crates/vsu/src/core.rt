@@ -327,8 +327,8 @@ fn step_sweep_modulate(voices: [Voice; 6], modulation: &[i8; 32]) -> [Voice; 6]
     out
 }
 
-// Steps 1 to 4 of a cycle. A function of its own: with the four calls in the loops of `run` and `advance` each cycle costs twice
-// as much (docs/PERFORMANCE.md).
+// Steps 1 to 4 of a cycle. A function of its own: with the four calls in the loop of `step` a cycle costs more than twice as much
+// (docs/PERFORMANCE.md).
 fn cycle(voices: [Voice; 6], modulation: &[i8; 32]) -> [Voice; 6]
     ensures { λ r. ⌜ r ≡ voicesAfter (now (modulation .entry)) voices ⌝ }
 {
