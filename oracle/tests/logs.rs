@@ -1,4 +1,4 @@
-//! The register log read a second time, in another way: the bytes are taken apart into a record first, and each rule of
+//! The register log read once more, in another way: the bytes are taken apart into a record first, and each rule of
 //! document 01 is a line of a list. Held against `log` on random and damaged logs.
 
 use oracle::log::{self, bytes_of, Refused, Write};

@@ -13,9 +13,10 @@ use lib.Dec.{eqb, leb, ltb}
 use lib.ListN.{getD, length}
 use Rattle.laws.proofs.Cases.{both, each, neither, ways}
 use Rattle.little.specs.Little.{number}
+use Rattle.refusal.specs.Refusal.{numberOf}
 use Rattle.refusal.specs.declared.Refusal.{Refusal}
-use Rattle.refusal.specs.declared.Refusal.the-variants.{LogEntry}
-use Rattle.log.specs.Log.{Layout, first, place, checkOf, countOf, cyclesOf, dueAt, dueBefore, dueEarlier, editionOf, faulty, headerOf, offsetOf, scan, standsAt, writeAt, writesFrom}
+use Rattle.refusal.specs.declared.Refusal.the-variants.{LogShort, LogEdition, LogHeader, LogCount, LogSize, LogEntry}
+use Rattle.log.specs.Log.{Layout, first, place, checkOf, checkedNumber, countOf, cyclesOf, dueAt, dueBefore, dueEarlier, editionOf, faulty, headerOf, offsetOf, scan, standsAt, writeAt, writesFrom}
 use Rattle.log.specs.declared.Checked.{Checked}
 use Rattle.log.specs.declared.Checked.the-variants as checked
 use Rattle.log.specs.declared.Write.{Write}
@@ -85,87 +86,125 @@ module _ (l : Layout) (b : List ℕ) (count cycles : ℕ) where
 
 -- an accepted log
 
-pub record Accepted (b : List ℕ) (n k : ℕ) : Type 0 where
+pub record Accepted (l : Layout) (b : List ℕ) (n k : ℕ) : Type 0 where
   pub count : countOf b ≡ n
-  pub cycles : cyclesOf first b ≡ k
+  pub cycles : cyclesOf l b ≡ k
   pub most : n ≤ 1000000
-  pub size : length b ≡ place first n
-  pub sound : (i : ℕ) → i < n → faulty first b k i ≡ false
+  pub size : length b ≡ place l n
+  pub sound : (i : ℕ) → i < n → faulty l b k i ≡ false
 
-module _ (b : List ℕ) (n k : ℕ) where
+module _ (l : Layout) (b : List ℕ) (n k : ℕ) where
   abbrev Told : Checked → Type 0
-  Told c = c ≡ checked.Log n k → Accepted b n k
+  Told c = c ≡ checked.Log n k → Accepted l b n k
 
-  scanned : countOf b ≤ 1000000 → length b ≡ place first (countOf b) → Told (scan first b (countOf b) (cyclesOf first b) (countOf b) 0)
+  scanned : countOf b ≤ 1000000 → length b ≡ place l (countOf b) → Told (scan l b (countOf b) (cyclesOf l b) (countOf b) 0)
   scanned g z e =
-      let s = scan-sound first b (countOf b) (cyclesOf first b) (countOf b) 0 n k e in
+      let s = scan-sound l b (countOf b) (cyclesOf l b) (countOf b) 0 n k e in
       record {
         count = s .0;
         cycles = s .1;
         most = omega (arith, s .0);
-        size = z ∙ ap (place first) (s .0);
-        sound = λ i h. subst (λ (c : ℕ). faulty first b c i ≡ false) (s .1) (s .2 i (omega arith) (omega (arith, s .0)));
+        size = z ∙ ap (place l) (s .0);
+        sound = λ i h. subst (λ (c : ℕ). faulty l b c i ≡ false) (s .1) (s .2 i (omega arith) (omega (arith, s .0)));
       }
 
-  pub accepted : Told (checkOf b)
+  pub accepted : Told (checkOf l b)
   unfolding checkOf
   accepted =
-      ways Told (ltb (length b) 16) (λ _ e. absurd (never e))
-      (λ _. ways Told (not (eqb (editionOf b) 1)) (λ _ e. absurd (never e))
-      (λ _. ways Told (not (eqb (headerOf b) 16) || not (eqb (offsetOf b) 16)) (λ _ e. absurd (never e))
+      ways Told (ltb (length b) (l .header)) (λ _ e. absurd (never e))
+      (λ _. ways Told (not (eqb (editionOf b) (l .edition))) (λ _ e. absurd (never e))
+      (λ _. ways Told (not (eqb (headerOf b) (l .header)) || not (eqb (offsetOf b) (l .header))) (λ _ e. absurd (never e))
       (λ _. ways Told (ltb 1000000 (countOf b)) (λ _ e. absurd (never e))
-      (λ g. ways Told (not (eqb (length b) (place first (countOf b)))) (λ _ e. absurd (never e))
+      (λ g. ways Told (not (eqb (length b) (place l (countOf b)))) (λ _ e. absurd (never e))
       (λ z. scanned (ltb-false _ _ g) (eqb-true _ _ (not-false _ z)))))))
+
+-- a log refused for an entry: the index that is carried is the first at fault
+
+module _ (l : Layout) (b : List ℕ) (i : ℕ) where
+  abbrev Blamed : Checked → Type 0
+  Blamed c = c ≡ checked.Refused (LogEntry i) → First l b (countOf b) (cyclesOf l b) (countOf b) 0 i
+
+  other : {why : Refusal} → (numberOf why ≡ 8 → ⊥) → Blamed (checked.Refused why)
+  other {why} h e = absurd (h (ap checkedNumber e))
+
+  pub first-fault : Blamed (checkOf l b)
+  unfolding checkOf
+  first-fault =
+      ways Blamed (ltb (length b) (l .header)) (λ _. other {why = LogShort} (omega arith))
+      (λ _. ways Blamed (not (eqb (editionOf b) (l .edition))) (λ _. other {why = LogEdition} (omega arith))
+      (λ _. ways Blamed (not (eqb (headerOf b) (l .header)) || not (eqb (offsetOf b) (l .header))) (λ _. other {why = LogHeader} (omega arith))
+      (λ _. ways Blamed (ltb 1000000 (countOf b)) (λ _. other {why = LogCount} (omega arith))
+      (λ _. ways Blamed (not (eqb (length b) (place l (countOf b)))) (λ _. other {why = LogSize} (omega arith))
+      (λ _. scan-first l b (countOf b) (cyclesOf l b) (countOf b) 0 i)))))
 
 -- "Due cycles never fall and are below L."
 
-module _ {b : List ℕ} {n k : ℕ} (a : Accepted b n k) where
-  entry-sound : (i : ℕ) → i < n → (dueAt first b i < k) × (dueEarlier first b i ≤ dueAt first b i)
+module _ {l : Layout} {b : List ℕ} {n k : ℕ} (a : Accepted l b n k) where
+  entry-sound : (i : ℕ) → i < n → (dueAt l b i < k) × (dueEarlier l b i ≤ dueAt l b i)
   unfolding faulty
   entry-sound i h =
-      let s = neither (not (eqb (getD b (place first i + 7) 0) 0) || leb k (dueAt first b i)) (ltb (dueAt first b i) (dueEarlier first b i)) (a .sound i h) in
-      let t = neither (not (eqb (getD b (place first i + 7) 0) 0)) (leb k (dueAt first b i)) (s .0) in
+      let s = neither (not (eqb (getD b (place l i + (l .due + 3)) 0) 0) || leb k (dueAt l b i)) (ltb (dueAt l b i) (dueEarlier l b i)) (a .sound i h) in
+      let t = neither (not (eqb (getD b (place l i + (l .due + 3)) 0) 0)) (leb k (dueAt l b i)) (s .0) in
       (leb-false _ _ (t .1), ltb-false _ _ (s .1))
 
-  pub due-below : (i : ℕ) → i < n → dueAt first b i < k
+  pub due-below : (i : ℕ) → i < n → dueAt l b i < k
   due-below i h = entry-sound i h .0
 
-  pub due-rises : (i : ℕ) → suc i < n → dueAt first b i ≤ dueAt first b (suc i)
+  pub due-rises : (i : ℕ) → suc i < n → dueAt l b i ≤ dueAt l b (suc i)
   unfolding dueEarlier
   due-rises i h = entry-sound (suc i) h .1
 
   -- from one entry to a later one
-  pub due-order : (m i : ℕ) → i + m < n → dueAt first b i ≤ dueAt first b (i + m)
+  pub due-order : (m i : ℕ) → i + m < n → dueAt l b i ≤ dueAt l b (i + m)
   due-order zero i h = rw add-zero (le-refl _)
   due-order (suc m) i h = rw add-suc (le-trans (due-order m i (omega arith)) (due-rises (i + m) (omega arith)))
 
+-- the same of the list of writes
+
+pub writes-at : (l : Layout) (b : List ℕ) (n i j : ℕ) (d : Write) → j < n → getD (writesFrom l b n i) j d ≡ writeAt l b (i + j)
+unfolding writesFrom
+writes-at l b zero i j d h = absurd (omega arith)
+writes-at l b (suc n) i zero d h = ap (writeAt l b) (sym (add-zero i))
+writes-at l b (suc n) i (suc j) d h = writes-at l b n (suc i) j d (omega arith) ∙ ap (writeAt l b) (omega arith)
+
+module _ {l : Layout} {b : List ℕ} {n k : ℕ} (a : Accepted l b n k) (d : Write) where
+  write-due : (j : ℕ) → j < n → getD (writesFrom l b n 0) j d .due ≡ dueAt l b j
+  unfolding writeAt
+  write-due j h = ap (λ (w : Write). w .due) (writes-at l b n 0 j d h) ∙ ap (dueAt l b) (omega arith)
+
+  pub write-below : (j : ℕ) → j < n → getD (writesFrom l b n 0) j d .due < k
+  write-below j h = rw (write-due j h) (due-below a j h)
+
+  pub write-rises : (j : ℕ) → suc j < n → getD (writesFrom l b n 0) j d .due ≤ getD (writesFrom l b n 0) (suc j) d .due
+  write-rises j h = rw (write-due j (omega arith), write-due (suc j) h) (due-rises a j h)
+
 -- The entries due before a cycle are the first ones, so that two entries tell their number.
 
-module _ {b : List ℕ} {n k : ℕ} (a : Accepted b n k) (c : ℕ) where
+module _ {lay : Layout} {b : List ℕ} {n k : ℕ} (a : Accepted lay b n k) (c : ℕ) where
   abbrev amount : ℕ → ℕ → ℕ
-  amount m i = dueBefore (writesFrom first b m i) c
+  amount m i = dueBefore (writesFrom lay b m i) c
 
-  none-due : (m i : ℕ) → i + m ≤ n → (0 < m → c ≤ dueAt first b i) → amount m i ≡ 0
+  none-due : (m i : ℕ) → i + m ≤ n → (0 < m → c ≤ dueAt lay b i) → amount m i ≡ 0
   unfolding writesFrom dueBefore writeAt
   none-due zero i h g = refl
   none-due (suc m) i h g =
-      rw (le-ltb (dueAt first b i) c (g (omega arith)))
+      rw (le-ltb (dueAt lay b i) c (g (omega arith)))
       (omega (arith, none-due m (suc i) (omega arith) (λ p. le-trans (g (omega arith)) (due-rises a i (omega arith)))))
 
   record Prefix (m i t : ℕ) : Type 0 where
     pub most : t ≤ m
-    pub low : (j : ℕ) → i ≤ j → j < i + t → dueAt first b j < c
-    pub high : (j : ℕ) → i + t ≤ j → j < i + m → c ≤ dueAt first b j
+    pub low : (j : ℕ) → i ≤ j → j < i + t → dueAt lay b j < c
+    pub high : (j : ℕ) → i + t ≤ j → j < i + m → c ≤ dueAt lay b j
 
-  one-more : (m i t : ℕ) → dueAt first b i < c → Prefix m (suc i) t → Prefix (suc m) i (1 + t)
+  one-more : (m i t : ℕ) → dueAt lay b i < c → Prefix m (suc i) t → Prefix (suc m) i (1 + t)
   one-more m i t g p =
       record {
         most = omega (arith, p .most);
-        low = λ j h l. ahead (λ (j : ℕ). dueAt first b j < c) t i g (p .low) j h (omega arith);
+        low = λ j h l. ahead (λ (j : ℕ). dueAt lay b j < c) t i g (p .low) j h (omega arith);
         high = λ j h l. p .high j (omega arith) (omega arith);
       }
 
-  no-more : (m i : ℕ) → i + suc m ≤ n → c ≤ dueAt first b i → Prefix (suc m) i 0
+  no-more : (m i : ℕ) → i + suc m ≤ n → c ≤ dueAt lay b i → Prefix (suc m) i 0
   no-more m i h g =
       record {
         most = omega arith;
@@ -173,16 +212,16 @@ module _ {b : List ℕ} {n k : ℕ} (a : Accepted b n k) (c : ℕ) where
         high = λ j p l. later j (omega arith) l;
       }
     where
-      later : (j : ℕ) → i ≤ j → j < i + suc m → c ≤ dueAt first b j
+      later : (j : ℕ) → i ≤ j → j < i + suc m → c ≤ dueAt lay b j
       later j p l =
           let e : i + (j - i) ≡ j = omega arith in
-          le-trans g (subst (λ (x : ℕ). dueAt first b i ≤ dueAt first b x) e (due-order a (j - i) i (omega arith)))
+          le-trans g (subst (λ (x : ℕ). dueAt lay b i ≤ dueAt lay b x) e (due-order a (j - i) i (omega arith)))
 
   prefix : (m i : ℕ) → i + m ≤ n → Prefix m i (amount m i)
   unfolding writesFrom dueBefore writeAt
   prefix zero i h = record { most = omega arith; low = λ j p l. absurd (omega arith); high = λ j p l. absurd (omega arith) }
   prefix (suc m) i h =
-      ways (λ (x : ℕ). Prefix (suc m) i (x + amount m (suc i))) (ltb (dueAt first b i) c)
+      ways (λ (x : ℕ). Prefix (suc m) i (x + amount m (suc i))) (ltb (dueAt lay b i) c)
       (λ t. one-more m i (amount m (suc i)) (ltb-true _ _ t) (prefix m (suc i) (omega arith)))
       (λ f. rw (none-due m (suc i) (omega arith) (λ p. le-trans (ltb-false _ _ f) (due-rises a i (omega arith)))) (no-more m i h (ltb-false _ _ f)))
 
@@ -193,51 +232,55 @@ module _ {b : List ℕ} {n k : ℕ} (a : Accepted b n k) (c : ℕ) where
   all : Prefix n 0 number-due
   all = prefix n 0 (omega arith)
 
-  earlier-due : (t : ℕ) → ((j : ℕ) → 0 ≤ j → j < 0 + t → dueAt first b j < c) → (eqb t 0 || ltb (dueEarlier first b t) c) ≡ true
+  earlier-due : (t : ℕ) → ((j : ℕ) → 0 ≤ j → j < 0 + t → dueAt lay b j < c) → (eqb t 0 || ltb (dueEarlier lay b t) c) ≡ true
   unfolding dueEarlier
   earlier-due zero l = refl
-  earlier-due (suc u) l = rw (lt-ltb (dueAt first b u) c (l u (omega arith) (omega arith))) (or-true (eqb (suc u) 0))
+  earlier-due (suc u) l = rw (lt-ltb (dueAt lay b u) c (l u (omega arith) (omega arith))) (or-true (eqb (suc u) 0))
 
-  next-due : (leb n number-due || leb c (dueAt first b number-due)) ≡ true
+  next-due : (leb n number-due || leb c (dueAt lay b number-due)) ≡ true
   next-due = go (leb n number-due) refl
     where
-      go : (t : Bool) → leb n number-due ≡ t → (t || leb c (dueAt first b number-due)) ≡ true
+      go : (t : Bool) → leb n number-due ≡ t → (t || leb c (dueAt lay b number-due)) ≡ true
       go true e = refl
       go false e = le-leb _ _ (all .high number-due (omega arith) (omega (arith, leb-false n number-due e)))
 
-  stands-here : standsAt first b n c number-due ≡ true
+  stands-here : standsAt lay b n c number-due ≡ true
   unfolding standsAt
   stands-here = both (both (le-leb _ _ (all .most)) (earlier-due number-due (all .low))) next-due
 
   -- no other number stands there
 
-  not-below : (t : ℕ) → t < number-due → (leb n t || leb c (dueAt first b t)) ≡ true → ⊥
+  not-below : (t : ℕ) → t < number-due → (leb n t || leb c (dueAt lay b t)) ≡ true → ⊥
   not-below t h e =
-      let g : (leb n t || leb c (dueAt first b t)) ≡ false =
-      rw (lt-leb n t (omega (arith, all .most)), lt-leb c (dueAt first b t) (all .low t (omega arith) (omega arith))) in
+      let g : (leb n t || leb c (dueAt lay b t)) ≡ false =
+      rw (lt-leb n t (omega (arith, all .most)), lt-leb c (dueAt lay b t) (all .low t (omega arith) (omega arith))) in
       true≢false (sym e ∙ g)
 
-  not-above : (t : ℕ) → number-due < t → t ≤ n → (eqb t 0 || ltb (dueEarlier first b t) c) ≡ true → ⊥
+  not-above : (t : ℕ) → number-due < t → t ≤ n → (eqb t 0 || ltb (dueEarlier lay b t) c) ≡ true → ⊥
   unfolding dueEarlier
   not-above zero h l e = omega arith
   not-above (suc u) h l e =
-      let g : (eqb (suc u) 0 || ltb (dueAt first b u) c) ≡ false =
-      rw (ne-eqb (suc u) 0 (omega arith), le-ltb (dueAt first b u) c (all .high u (omega arith) (omega arith))) in
+      let g : (eqb (suc u) 0 || ltb (dueAt lay b u) c) ≡ false =
+      rw (ne-eqb (suc u) 0 (omega arith), le-ltb (dueAt lay b u) c (all .high u (omega arith) (omega arith))) in
       true≢false (sym e ∙ g)
 
-  stands-only : (t : ℕ) → standsAt first b n c t ≡ true → t ≡ number-due
+  stands-only : (t : ℕ) → standsAt lay b n c t ≡ true → t ≡ number-due
   unfolding standsAt
   stands-only t s =
-      each (leb t n) ((eqb t 0 || ltb (dueEarlier first b t) c) ∷ (leb n t || leb c (dueAt first b t)) ∷ []) s
+      each (leb t n) ((eqb t 0 || ltb (dueEarlier lay b t) c) ∷ (leb n t || leb c (dueAt lay b t)) ∷ []) s
       (λ f.
       let low : t < number-due → ⊥ = λ h. not-below t h (f .1 .1 .0) in
       let high : number-due < t → ⊥ = λ h. not-above t h (leb-true _ _ (f .0)) (f .1 .0) in
       omega arith)
 
   -- two reads of an accepted log tell whether t is the number of entries due before c
-  pub stands : (t : ℕ) → standsAt first b n c t ≡ eqb t number-due
-  stands t = go (standsAt first b n c t) refl
+  pub stands : (t : ℕ) → standsAt lay b n c t ≡ eqb t number-due
+  stands t = go (standsAt lay b n c t) refl
     where
-      go : (s : Bool) → standsAt first b n c t ≡ s → s ≡ eqb t number-due
+      go : (s : Bool) → standsAt lay b n c t ≡ s → s ≡ eqb t number-due
       go true e = sym (eq-eqb _ _ (stands-only t e))
-      go false e = sym (ne-eqb _ _ (λ q. true≢false (sym stands-here ∙ subst (λ (x : ℕ). standsAt first b n c x ≡ false) q e)))
+      go false e = sym (ne-eqb _ _ (λ q. true≢false (sym stands-here ∙ subst (λ (x : ℕ). standsAt lay b n c x ≡ false) q e)))
+
+-- both promises of `stands_at`
+pub both-stand : (b : List ℕ) (count cycle t : ℕ) {r : Bool} → r ≡ standsAt first b count cycle t → (r ≡ standsAt first b count cycle t) × ((k : ℕ) → checkOf first b ≡ checked.Log count k → r ≡ eqb t (dueBefore (writesFrom first b count 0) cycle))
+both-stand b count cycle t e = (e, λ k c. e ∙ stands (accepted first b count k c) cycle t)

@@ -12,7 +12,7 @@ use Rattle.laws.proofs.Cases.{ways}
 use Rattle.little.specs.Little.{number}
 use Rattle.refusal.specs.declared.Refusal.{Refusal}
 use Rattle.refusal.specs.declared.Refusal.the-variants.{LogShort, LogEdition, LogHeader, LogCount, LogSize, LogEntry}
-use Rattle.log.specs.Log.{Layout, first, place, checkNumber, checkedNumber, countedNumber, readNumber, scanNumber, dueBefore, dueBeforeOf, countIn, entryIn, entryOf, writesFrom, checkOf, countOf, cyclesOf, dueAt, dueEarlier, editionOf, faulty, headerOf, offsetOf, scan, writeAt}
+use Rattle.log.specs.Log.{Layout, first, place, checkNumber, checkCarried, checkedNumber, checkedCarried, countedNumber, countedCarried, readNumber, readCarried, scanTold, dueBefore, dueBeforeOf, countIn, entryIn, entryOf, writesFrom, checkOf, countOf, cyclesOf, dueAt, dueEarlier, editionOf, faulty, headerOf, offsetOf, scan, writeAt}
 use Rattle.log.specs.declared.Checked.{Checked}
 use Rattle.log.specs.declared.Checked.the-variants as checked
 use Rattle.log.specs.declared.Counted.{Counted}
@@ -51,32 +51,32 @@ earlier-next b i p q = rw (add-one i, q, p)
 -- the header, refusal by refusal: each law has the tests before it passed
 
 module _ (b : List ℕ) where
-  pub check-short : length b < 16 → checked.Refused LogShort ≡ checkOf b
+  pub check-short : length b < 16 → checked.Refused LogShort ≡ checkOf first b
   unfolding checkOf
   check-short h = rw (lt-ltb (length b) 16 h)
 
   module _ (l : 16 ≤ length b) {e : ℕ} (p : e ≡ editionOf b) where
-    pub check-edition : (e ≡ 1 → ⊥) → checked.Refused LogEdition ≡ checkOf b
+    pub check-edition : (e ≡ 1 → ⊥) → checked.Refused LogEdition ≡ checkOf first b
     unfolding checkOf
     check-edition n = rw (le-ltb (length b) 16 l, ← p, ne-eqb e 1 n)
 
     module _ (v : e ≡ 1) {h o : ℕ} (q : h ≡ headerOf b) (r : o ≡ offsetOf b) where
-      pub check-header : (not (eqb h 16) || not (eqb o 16)) ≡ true → checked.Refused LogHeader ≡ checkOf b
+      pub check-header : (not (eqb h 16) || not (eqb o 16)) ≡ true → checked.Refused LogHeader ≡ checkOf first b
       unfolding checkOf
       check-header t = rw (le-ltb (length b) 16 l, ← p, eq-eqb e 1 v, ← q, ← r, t)
 
       module _ (t : (not (eqb h 16) || not (eqb o 16)) ≡ false) {c : ℕ} (s : c ≡ countOf b) where
-        pub check-count : 1000000 < c → checked.Refused LogCount ≡ checkOf b
+        pub check-count : 1000000 < c → checked.Refused LogCount ≡ checkOf first b
         unfolding checkOf
         check-count g = rw (le-ltb (length b) 16 l, ← p, eq-eqb e 1 v, ← q, ← r, t, ← s, lt-ltb 1000000 c g)
 
         module _ (g : c ≤ 1000000) {z : ℕ} (w : z ≡ place first c) where
-          pub check-size : (length b ≡ z → ⊥) → checked.Refused LogSize ≡ checkOf b
+          pub check-size : (length b ≡ z → ⊥) → checked.Refused LogSize ≡ checkOf first b
           unfolding checkOf
           check-size n =
               rw (le-ltb (length b) 16 l, ← p, eq-eqb e 1 v, ← q, ← r, t, ← s, le-ltb 1000000 c g, ← w, ne-eqb (length b) z n)
 
-          pub check-scan : length b ≡ z → {k : ℕ} → k ≡ cyclesOf first b → scan first b c k c 0 ≡ checkOf b
+          pub check-scan : length b ≡ z → {k : ℕ} → k ≡ cyclesOf first b → scan first b c k c 0 ≡ checkOf first b
           unfolding checkOf
           check-scan n x =
               rw
@@ -109,67 +109,81 @@ earlier-of b (suc i) n e = e ∙ ap (dueAt first b) (omega arith)
 -- the answers of the calls that check first
 
 module _ {c : Checked} (b : List ℕ) where
-  pub entry-read : {count cycles i : ℕ} {w : Write} → c ≡ checkOf b → c ≡ checked.Log count cycles → i < count → w ≡ writeAt first b i → entries.Write w ≡ entryOf b i
+  pub entry-read : {count cycles i : ℕ} {w : Write} → c ≡ checkOf first b → c ≡ checked.Log count cycles → i < count → w ≡ writeAt first b i → entries.Write w ≡ entryOf first b i
   unfolding entryIn
   entry-read {i = i} p q h e = rw (← p, q, lt-ltb _ _ h, e)
 
-  pub entry-ended : {count cycles i : ℕ} → c ≡ checkOf b → c ≡ checked.Log count cycles → count ≤ i → entries.Ended ≡ entryOf b i
+  pub entry-ended : {count cycles i : ℕ} → c ≡ checkOf first b → c ≡ checked.Log count cycles → count ≤ i → entries.Ended ≡ entryOf first b i
   unfolding entryIn
   entry-ended p q h = rw (← p, q, le-ltb _ _ h)
 
-  pub entry-refused : {why : Refusal} (i : ℕ) → c ≡ checkOf b → c ≡ checked.Refused why → entries.Refused why ≡ entryOf b i
+  pub entry-refused : {why : Refusal} (i : ℕ) → c ≡ checkOf first b → c ≡ checked.Refused why → entries.Refused why ≡ entryOf first b i
   unfolding entryIn
   entry-refused i p q = rw (← p, q)
 
-  pub counted-in : {count cycles n : ℕ} (cycle : ℕ) → c ≡ checkOf b → c ≡ checked.Log count cycles → n ≡ dueBefore (writesFrom first b count 0) cycle → counts.Number n ≡ dueBeforeOf b cycle
+  pub counted-in : {count cycles n : ℕ} (cycle : ℕ) → c ≡ checkOf first b → c ≡ checked.Log count cycles → n ≡ dueBefore (writesFrom first b count 0) cycle → counts.Number n ≡ dueBeforeOf first b cycle
   unfolding countIn
   counted-in cycle p q e = rw (← p, q, e)
 
-  pub counted-refused : {why : Refusal} (cycle : ℕ) → c ≡ checkOf b → c ≡ checked.Refused why → counts.Refused why ≡ dueBeforeOf b cycle
+  pub counted-refused : {why : Refusal} (cycle : ℕ) → c ≡ checkOf first b → c ≡ checked.Refused why → counts.Refused why ≡ dueBeforeOf first b cycle
   unfolding countIn
   counted-refused cycle p q = rw (← p, q)
 
 pub count-start : (b : List ℕ) (count cycle : ℕ) → 0 + dueBefore (writesFrom first b (count - 0) 0) cycle ≡ dueBefore (writesFrom first b count 0) cycle
 count-start b count cycle = let z : count - 0 ≡ count = omega arith in rw z (omega arith)
 
--- the numbers
+-- the numbers and the values
 
 chosen : {A B : Type 0} (f : A → B) (t : Bool) {x y : A} {u v : B} → f x ≡ u → f y ≡ v → f (cond t x y) ≡ cond t u v
 chosen f true p q = p
 chosen f false p q = q
 
-scan-number : (l : Layout) (b : List ℕ) (count cycles n i : ℕ) → checkedNumber (scan l b count cycles n i) ≡ scanNumber l b cycles n i
-unfolding scan scanNumber
-scan-number l b count cycles zero i = refl
-scan-number l b count cycles (suc n) i =
-    chosen checkedNumber (faulty l b cycles i) {x = checked.Refused (LogEntry i)} refl (scan-number l b count cycles n (suc i))
+module _ (f : Checked → ℕ) (eight : ℕ → ℕ) (log : (c k : ℕ) → f (checked.Log c k) ≡ 0) (entry : (i : ℕ) → f (checked.Refused (LogEntry i)) ≡ eight i) where
+  scan-told : (l : Layout) (b : List ℕ) (count cycles n i : ℕ) → f (scan l b count cycles n i) ≡ scanTold eight l b cycles n i
+  unfolding scan scanTold
+  scan-told l b count cycles zero i = log count cycles
+  scan-told l b count cycles (suc n) i = chosen f (faulty l b cycles i) (entry i) (scan-told l b count cycles n (suc i))
 
-module _ (b : List ℕ) where
-  check-number : checkedNumber (checkOf b) ≡ checkNumber b
+module _ (l : Layout) (b : List ℕ) where
+  check-number : checkedNumber (checkOf l b) ≡ checkNumber l b
   unfolding checkOf checkNumber
   check-number =
-      chosen checkedNumber (ltb (length b) 16) {x = checked.Refused LogShort} refl
-      (chosen checkedNumber (not (eqb (editionOf b) 1)) {x = checked.Refused LogEdition} refl
-      (chosen checkedNumber (not (eqb (headerOf b) 16) || not (eqb (offsetOf b) 16)) {x = checked.Refused LogHeader} refl
+      chosen checkedNumber (ltb (length b) (l .header)) {x = checked.Refused LogShort} refl
+      (chosen checkedNumber (not (eqb (editionOf b) (l .edition))) {x = checked.Refused LogEdition} refl
+      (chosen checkedNumber (not (eqb (headerOf b) (l .header)) || not (eqb (offsetOf b) (l .header))) {x = checked.Refused LogHeader} refl
       (chosen checkedNumber (ltb 1000000 (countOf b)) {x = checked.Refused LogCount} refl
-      (chosen checkedNumber (not (eqb (length b) (place first (countOf b)))) {x = checked.Refused LogSize} refl
-      (scan-number first b (countOf b) (cyclesOf first b) (countOf b) 0)))))
+      (chosen checkedNumber (not (eqb (length b) (place l (countOf b)))) {x = checked.Refused LogSize} refl
+      (scan-told checkedNumber (λ (i : ℕ). 8) (λ c k. refl) (λ i. refl) l b (countOf b) (cyclesOf l b) (countOf b) 0)))))
 
-  pub numbered : {r : Checked} → r ≡ checkOf b → (r ≡ checkOf b) × (checkedNumber r ≡ checkNumber b)
-  numbered e = (e, ap checkedNumber e ∙ check-number)
+  check-carried : checkedCarried (checkOf l b) ≡ checkCarried l b
+  unfolding checkOf checkCarried
+  check-carried =
+      chosen checkedCarried (ltb (length b) (l .header)) {x = checked.Refused LogShort} refl
+      (chosen checkedCarried (not (eqb (editionOf b) (l .edition))) {x = checked.Refused LogEdition} refl
+      (chosen checkedCarried (not (eqb (headerOf b) (l .header)) || not (eqb (offsetOf b) (l .header))) {x = checked.Refused LogHeader} refl
+      (chosen checkedCarried (ltb 1000000 (countOf b)) {x = checked.Refused LogCount} refl
+      (chosen checkedCarried (not (eqb (length b) (place l (countOf b)))) {x = checked.Refused LogSize} refl
+      (scan-told checkedCarried (λ (i : ℕ). i) (λ c k. refl) (λ i. refl) l b (countOf b) (cyclesOf l b) (countOf b) 0)))))
 
-  read-number : (c : Checked) (i : ℕ) → readNumber (entryIn c b i) ≡ checkedNumber c
+  pub numbered : {r : Checked} → r ≡ checkOf l b → (r ≡ checkOf l b) × ((checkedNumber r ≡ checkNumber l b) × (checkedCarried r ≡ checkCarried l b))
+  numbered e = (e, (ap checkedNumber e ∙ check-number, ap checkedCarried e ∙ check-carried))
+
+  read-told : (c : Checked) (i : ℕ) → (readNumber (entryIn l c b i) ≡ checkedNumber c) × (readCarried (entryIn l c b i) ≡ checkedCarried c)
   unfolding entryIn
-  read-number (checked.Log count cycles) i = ways (λ (r : Read). readNumber r ≡ 0) (ltb i count) (λ _. refl) (λ _. refl)
-  read-number (checked.Refused why) i = refl
+  read-told (checked.Log count cycles) i =
+      ways (λ (r : Read). (readNumber r ≡ 0) × (readCarried r ≡ 0)) (ltb i count) (λ _. (refl, refl)) (λ _. (refl, refl))
+  read-told (checked.Refused why) i = (refl, refl)
 
-  pub read-numbered : {r : Read} (i : ℕ) → r ≡ entryOf b i → (r ≡ entryOf b i) × (readNumber r ≡ checkNumber b)
-  read-numbered i e = (e, ap readNumber e ∙ read-number (checkOf b) i ∙ check-number)
+  pub read-numbered : {r : Read} (i : ℕ) → r ≡ entryOf l b i → (r ≡ entryOf l b i) × ((readNumber r ≡ checkNumber l b) × (readCarried r ≡ checkCarried l b))
+  read-numbered i e =
+      let t = read-told (checkOf l b) i in (e, (ap readNumber e ∙ t .0 ∙ check-number, ap readCarried e ∙ t .1 ∙ check-carried))
 
-  counted-number : (c : Checked) (cycle : ℕ) → countedNumber (countIn c b cycle) ≡ checkedNumber c
+  counted-told : (c : Checked) (cycle : ℕ) → (countedNumber (countIn l c b cycle) ≡ checkedNumber c) × (countedCarried (countIn l c b cycle) ≡ checkedCarried c)
   unfolding countIn
-  counted-number (checked.Log count cycles) cycle = refl
-  counted-number (checked.Refused why) cycle = refl
+  counted-told (checked.Log count cycles) cycle = (refl, refl)
+  counted-told (checked.Refused why) cycle = (refl, refl)
 
-  pub counted-numbered : {r : Counted} (cycle : ℕ) → r ≡ dueBeforeOf b cycle → (r ≡ dueBeforeOf b cycle) × (countedNumber r ≡ checkNumber b)
-  counted-numbered cycle e = (e, ap countedNumber e ∙ counted-number (checkOf b) cycle ∙ check-number)
+  pub counted-numbered : {r : Counted} (cycle : ℕ) → r ≡ dueBeforeOf l b cycle → (r ≡ dueBeforeOf l b cycle) × ((countedNumber r ≡ checkNumber l b) × (countedCarried r ≡ checkCarried l b))
+  counted-numbered cycle e =
+      let t = counted-told (checkOf l b) cycle in
+      (e, (ap countedNumber e ∙ t .0 ∙ check-number, ap countedCarried e ∙ t .1 ∙ check-carried))

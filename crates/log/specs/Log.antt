@@ -5,7 +5,7 @@ use mathlib.Core.List.{List, [], _∷_}
 use lib.Dec.{eqb, leb, ltb}
 use lib.ListN.{getD, length}
 use Rattle.little.specs.Little.{number}
-use Rattle.refusal.specs.Refusal.{numberOf}
+use Rattle.refusal.specs.Refusal.{numberOf, carriedOf}
 use Rattle.refusal.specs.declared.Refusal.{Refusal}
 use Rattle.refusal.specs.declared.Refusal.the-variants.{LogShort, LogEdition, LogHeader, LogCount, LogSize, LogEntry}
 use Rattle.log.specs.declared.Checked.{Checked}
@@ -61,44 +61,57 @@ unfoldable pub dueEarlier : Layout → List ℕ → ℕ → ℕ
 dueEarlier l b zero = 0
 dueEarlier l b (suc i) = dueAt l b i
 
--- "last byte not zero, due cycle at or above L, or below the one before it"
+-- an entry is at fault where its last byte is not zero, its due cycle is not below L, or it falls below the one before
 unfoldable pub faulty : Layout → List ℕ → ℕ → ℕ → Bool
 faulty l b cycles i =
     not (eqb (getD b (place l i + (l .due + 3)) 0) 0) || leb cycles (dueAt l b i) || ltb (dueAt l b i) (dueEarlier l b i)
 
--- "8: entry at fault: carries the first such index": the n entries from i on
+-- 8, "entry at fault: carries the first such index": the n entries from i on
 unfoldable pub scan : Layout → List ℕ → ℕ → ℕ → ℕ → ℕ → Checked
 scan l b count cycles zero i = checked.Log count cycles
 scan l b count cycles (suc n) i =
     cond (faulty l b cycles i) (checked.Refused (LogEntry i)) (scan l b count cycles n (suc i))
 
--- "3 to 7: log under 16 bytes; edition; header length or entry offset; count; size", then 8
-unfoldable pub checkOf : List ℕ → Checked
-checkOf b =
-    cond (ltb (length b) 16) (checked.Refused LogShort)
-    (cond (not (eqb (editionOf b) 1)) (checked.Refused LogEdition)
-    (cond (not (eqb (headerOf b) 16) || not (eqb (offsetOf b) 16)) (checked.Refused LogHeader)
+-- 3 to 7, "log under 16 bytes; edition; header length or entry offset; count; size", then 8
+unfoldable pub checkOf : Layout → List ℕ → Checked
+checkOf l b =
+    cond (ltb (length b) (l .header)) (checked.Refused LogShort)
+    (cond (not (eqb (editionOf b) (l .edition))) (checked.Refused LogEdition)
+    (cond (not (eqb (headerOf b) (l .header)) || not (eqb (offsetOf b) (l .header))) (checked.Refused LogHeader)
     (cond (ltb 1000000 (countOf b)) (checked.Refused LogCount)
-    (cond (not (eqb (length b) (place first (countOf b)))) (checked.Refused LogSize)
-    (scan first b (countOf b) (cyclesOf first b) (countOf b) 0)))))
+    (cond (not (eqb (length b) (place l (countOf b)))) (checked.Refused LogSize)
+    (scan l b (countOf b) (cyclesOf l b) (countOf b) 0)))))
 
--- 01's number of an answer, 0 where the bytes are a log.
+-- 01's number of an answer, 0 where the bytes are a log, and the value that it carries.
 
 abbrev pub checkedNumber : Checked → ℕ
 checkedNumber (checked.Log count cycles) = 0
 checkedNumber (checked.Refused why) = numberOf why
 
-unfoldable pub scanNumber : Layout → List ℕ → ℕ → ℕ → ℕ → ℕ
-scanNumber l b cycles zero i = 0
-scanNumber l b cycles (suc n) i = cond (faulty l b cycles i) 8 (scanNumber l b cycles n (suc i))
+abbrev pub checkedCarried : Checked → ℕ
+checkedCarried (checked.Log count cycles) = 0
+checkedCarried (checked.Refused why) = carriedOf why
 
-unfoldable pub checkNumber : List ℕ → ℕ
-checkNumber b =
-    cond (ltb (length b) 16) 3
-    (cond (not (eqb (editionOf b) 1)) 4
-    (cond (not (eqb (headerOf b) 16) || not (eqb (offsetOf b) 16)) 5
+-- what is told of the first entry at fault, 0 where there is none
+unfoldable pub scanTold : (ℕ → ℕ) → Layout → List ℕ → ℕ → ℕ → ℕ → ℕ
+scanTold eight l b cycles zero i = 0
+scanTold eight l b cycles (suc n) i = cond (faulty l b cycles i) (eight i) (scanTold eight l b cycles n (suc i))
+
+unfoldable pub checkNumber : Layout → List ℕ → ℕ
+checkNumber l b =
+    cond (ltb (length b) (l .header)) 3
+    (cond (not (eqb (editionOf b) (l .edition))) 4
+    (cond (not (eqb (headerOf b) (l .header)) || not (eqb (offsetOf b) (l .header))) 5
     (cond (ltb 1000000 (countOf b)) 6
-    (cond (not (eqb (length b) (place first (countOf b)))) 7 (scanNumber first b (cyclesOf first b) (countOf b) 0)))))
+    (cond (not (eqb (length b) (place l (countOf b)))) 7 (scanTold (λ (i : ℕ). 8) l b (cyclesOf l b) (countOf b) 0)))))
+
+unfoldable pub checkCarried : Layout → List ℕ → ℕ
+checkCarried l b =
+    cond (ltb (length b) (l .header)) 0
+    (cond (not (eqb (editionOf b) (l .edition))) 0
+    (cond (not (eqb (headerOf b) (l .header)) || not (eqb (offsetOf b) (l .header))) 0
+    (cond (ltb 1000000 (countOf b)) 0
+    (cond (not (eqb (length b) (place l (countOf b)))) 0 (scanTold (λ (i : ℕ). i) l b (cyclesOf l b) (countOf b) 0)))))
 
 -- Writes.
 
@@ -117,28 +130,37 @@ dueBefore (w ∷ ws) cycle = cond (ltb (w .due) cycle) 1 0 + dueBefore ws cycle
 
 -- "Reading a log entry past the last answers that the log has ended."; bytes that are no log are refused
 
-unfoldable pub entryIn : Checked → List ℕ → ℕ → Read
-entryIn (checked.Log count cycles) b i = cond (ltb i count) (entries.Write (writeAt first b i)) entries.Ended
-entryIn (checked.Refused why) b i = entries.Refused why
+unfoldable pub entryIn : Layout → Checked → List ℕ → ℕ → Read
+entryIn l (checked.Log count cycles) b i = cond (ltb i count) (entries.Write (writeAt l b i)) entries.Ended
+entryIn l (checked.Refused why) b i = entries.Refused why
 
-abbrev pub entryOf : List ℕ → ℕ → Read
-entryOf b i = entryIn (checkOf b) b i
+abbrev pub entryOf : Layout → List ℕ → ℕ → Read
+entryOf l b i = entryIn l (checkOf l b) b i
 
-unfoldable pub countIn : Checked → List ℕ → ℕ → Counted
-countIn (checked.Log count cycles) b cycle = counted.Number (dueBefore (writesFrom first b count 0) cycle)
-countIn (checked.Refused why) b cycle = counted.Refused why
+unfoldable pub countIn : Layout → Checked → List ℕ → ℕ → Counted
+countIn l (checked.Log count cycles) b cycle = counted.Number (dueBefore (writesFrom l b count 0) cycle)
+countIn l (checked.Refused why) b cycle = counted.Refused why
 
-abbrev pub dueBeforeOf : List ℕ → ℕ → Counted
-dueBeforeOf b cycle = countIn (checkOf b) b cycle
+abbrev pub dueBeforeOf : Layout → List ℕ → ℕ → Counted
+dueBeforeOf l b cycle = countIn l (checkOf l b) b cycle
 
 abbrev pub readNumber : Read → ℕ
 readNumber (entries.Write w) = 0
 readNumber entries.Ended = 0
 readNumber (entries.Refused why) = numberOf why
 
+abbrev pub readCarried : Read → ℕ
+readCarried (entries.Write w) = 0
+readCarried entries.Ended = 0
+readCarried (entries.Refused why) = carriedOf why
+
 abbrev pub countedNumber : Counted → ℕ
 countedNumber (counted.Number n) = 0
 countedNumber (counted.Refused why) = numberOf why
+
+abbrev pub countedCarried : Counted → ℕ
+countedCarried (counted.Number n) = 0
+countedCarried (counted.Refused why) = carriedOf why
 
 -- Whether k is the number of entries due before a cycle, by two of an accepted log's entries: the last of the first k is due
 -- before it, and the one after them is not.

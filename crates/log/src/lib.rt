@@ -2,10 +2,11 @@
 use refusal::Refusal;
 ghost use mathlib.Core.Path.{_≡_};
 ghost use mathlib.Core.Bool.{true};
-ghost use Prim.Native.Nat.{_+_, _<_, _≤_};
+ghost use Prim.Native.Nat.{ℕ, _+_, _<_, _≤_};
+ghost use lib.Dec.{eqb};
 ghost use lib.ListN.{length};
 ghost use Rattle.little.specs.Little.{number};
-ghost use Rattle.log.specs.Log.{first, place, checkOf, scan, writeAt, dueAt, dueBefore, writesFrom, entryOf, dueBeforeOf, dueEarlier, standsAt, checkedNumber, checkNumber, readNumber, countedNumber};
+ghost use Rattle.log.specs.Log.{first, place, checkOf, scan, writeAt, dueAt, dueBefore, writesFrom, entryOf, dueBeforeOf, dueEarlier, standsAt, checkedNumber, checkedCarried, checkNumber, checkCarried, readNumber, readCarried, countedNumber, countedCarried};
 
 pub struct Write {
     pub due: u32,
@@ -97,8 +98,9 @@ fn check_entries(log: &[u8], count: u32, cycles: u32) -> Checked
 
 // Refusals 3 to 8, or the number of entries and L.
 pub fn check_log(log: &[u8]) -> Checked
-    ensures { λ r. ⌜ r ≡ checkOf (now (log .entry)) ⌝ }
-    ensures { λ r. ⌜ checkedNumber r ≡ checkNumber (now (log .entry)) ⌝ }
+    ensures { λ r. ⌜ r ≡ checkOf first (now (log .entry)) ⌝ }
+    ensures { λ r. ⌜ checkedNumber r ≡ checkNumber first (now (log .entry)) ⌝ }
+    ensures { λ r. ⌜ checkedCarried r ≡ checkCarried first (now (log .entry)) ⌝ }
 {
     if log.len() < 16 {
         return Checked::Refused(Refusal::LogShort);
@@ -121,8 +123,9 @@ pub fn check_log(log: &[u8]) -> Checked
 
 // The write of an entry, or that the log has ended.
 pub fn entry(log: &[u8], index: u32) -> Read
-    ensures { λ r. ⌜ r ≡ entryOf (now (log .entry)) index ⌝ }
-    ensures { λ r. ⌜ readNumber r ≡ checkNumber (now (log .entry)) ⌝ }
+    ensures { λ r. ⌜ r ≡ entryOf first (now (log .entry)) index ⌝ }
+    ensures { λ r. ⌜ readNumber r ≡ checkNumber first (now (log .entry)) ⌝ }
+    ensures { λ r. ⌜ readCarried r ≡ checkCarried first (now (log .entry)) ⌝ }
 {
     let c = check_log(log);
     match c {
@@ -153,8 +156,9 @@ fn count_due(log: &[u8], count: u32, cycle: u32) -> u32
 
 // The number of entries due before a cycle.
 pub fn due_before(log: &[u8], cycle: u32) -> Counted
-    ensures { λ r. ⌜ r ≡ dueBeforeOf (now (log .entry)) cycle ⌝ }
-    ensures { λ r. ⌜ countedNumber r ≡ checkNumber (now (log .entry)) ⌝ }
+    ensures { λ r. ⌜ r ≡ dueBeforeOf first (now (log .entry)) cycle ⌝ }
+    ensures { λ r. ⌜ countedNumber r ≡ checkNumber first (now (log .entry)) ⌝ }
+    ensures { λ r. ⌜ countedCarried r ≡ checkCarried first (now (log .entry)) ⌝ }
 {
     let c = check_log(log);
     match c {
@@ -176,6 +180,7 @@ fn due_earlier(log: &[u8], index: u32) -> u32
 // Whether `number` entries of an accepted log of `count` are due before `cycle`, by two reads and no pass.
 pub fn stands_at(log: &[u8], count: u32, cycle: u32, number: u32) -> bool
     ensures { λ r. ⌜ r ≡ standsAt first (now (log .entry)) count cycle number ⌝ }
+    ensures { λ r. ⌜ ((k : ℕ) → checkOf first (now (log .entry)) ≡ Checked.Log count k → r ≡ eqb number (dueBefore (writesFrom first (now (log .entry)) count 0) cycle)) ⌝ }
 {
     let earlier = due_earlier(log, number);
     let next = due_at(log, number);

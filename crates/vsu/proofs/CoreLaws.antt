@@ -20,7 +20,7 @@ use Rattle.common.specs.Bits.{bit, signed}
 use Rattle.voice.specs.ChannelEnum.{voiceWrite}
 use Rattle.voice.specs.declared.channel_enum.Voice.{Voice}
 use Rattle.vsu.specs.Core.{decodeOf, between, plays, anyPlays, voiceAt, stop, write, writeTo, withWaves, withModulation, withVoices, offWave, frameSide, total, allAtMost, allBytes, shaped, voicesInRange, inRange, moved, run, frames, framesDue, sides, fitsIn, movedNumber, runAnswer, runNumber, runOut}
-use Rattle.refusal.specs.Refusal.{answerNumber}
+use Rattle.refusal.specs.Refusal.{answerNumber, answerCarried}
 use Rattle.refusal.specs.declared.Answer.the-variants.{Accepted, Refused}
 use Rattle.refusal.specs.declared.Refusal.the-variants.{State, Room}
 use Rattle.vsu.specs.declared.core.Moved.{Moved}
@@ -199,33 +199,33 @@ module _ (f : Voice → ℕ) where
 -- the answers, with their numbers: `p` is what the range test said
 
 module _ (u : Vsu) {p : Bool} (e : p ≡ inRange u) where
-  pub moved-on : p ≡ true → {s t : Vsu} → s ≡ t → (record { state = s; answer = Accepted } ≡ moved u t) × (answerNumber Accepted ≡ movedNumber u)
+  pub moved-on : p ≡ true → {s t : Vsu} → s ≡ t → (record { state = s; answer = Accepted } ≡ moved u t) × ((answerNumber Accepted ≡ movedNumber u) × (answerCarried Accepted ≡ 0))
   unfolding moved movedNumber
-  moved-on h q = (rw (q, ← e, h), rw (← e, h))
+  moved-on h q = (rw (q, ← e, h), (rw (← e, h), refl))
 
-  pub moved-refused : p ≡ false → (t : Vsu) → (record { state = u; answer = Refused State } ≡ moved u t) × (answerNumber (Refused State) ≡ movedNumber u)
+  pub moved-refused : p ≡ false → (t : Vsu) → (record { state = u; answer = Refused State } ≡ moved u t) × ((answerNumber (Refused State) ≡ movedNumber u) × (answerCarried (Refused State) ≡ 0))
   unfolding moved movedNumber
-  moved-refused h t = (rw (← e, h), rw (← e, h))
+  moved-refused h t = (rw (← e, h), (rw (← e, h), refl))
 
   module _ (n : ℕ) (out : List ℤ) where
-    -- the answer, its number, and what the buffer holds
+    -- the answer, its number and value, and what the buffer holds
     abbrev pub Promised : Ran → List ℤ → Type 0
     Promised r after =
-        (r ≡ runAnswer n u (length out)) × ((answerNumber (r .answer) ≡ runNumber n u (length out)) × (after ≡ runOut n u out))
+        (r ≡ runAnswer n u (length out)) × (((answerNumber (r .answer) ≡ runNumber n u (length out)) × (answerCarried (r .answer) ≡ 0)) × (after ≡ runOut n u out))
 
     pub run-refused : p ≡ false → Promised (record { state = u; frames = 0; answer = Refused State }) out
     unfolding runAnswer runNumber runOut
-    run-refused h = (rw (← e, h), (rw (← e, h), rw (← e, h)))
+    run-refused h = (rw (← e, h), ((rw (← e, h), refl), rw (← e, h)))
 
     module _ (h : p ≡ true) where
       pub run-crowded : length out / 2 < framesDue u n → Promised (record { state = u; frames = 0; answer = Refused Room }) out
       unfolding runAnswer runNumber runOut
       run-crowded g =
           let t : fitsIn n u (length out) ≡ false = lt-leb (framesDue u n) (length out / 2) g in
-          (rw (← e, h, t), (rw (← e, h, t), rw (← e, h, t)))
+          (rw (← e, h, t), ((rw (← e, h, t), refl), rw (← e, h, t)))
 
       pub run-made : framesDue u n ≤ length out / 2 → {s : Vsu} {after : List ℤ} → s ≡ run n u → after ≡ sides (frames n u) ++ drop (framesDue u n * 2) out → Promised (record { state = s; frames = framesDue u n; answer = Accepted }) after
       unfolding runAnswer runNumber runOut
       run-made g q r =
           let t : fitsIn n u (length out) ≡ true = le-leb (framesDue u n) (length out / 2) g in
-          (rw (q, ← e, h, t), (rw (← e, h, t), rw (r, ← e, h, t)))
+          (rw (q, ← e, h, t), ((rw (← e, h, t), refl), rw (r, ← e, h, t)))

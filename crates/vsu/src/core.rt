@@ -17,7 +17,7 @@ ghost use mathlib.Core.Bool.{true};
 ghost use mathlib.Core.List.{_++_, map};
 ghost use Prim.Native.Nat.{_*_, _<_, _≤_};
 ghost use lib.ListN.{getD, length, drop};
-ghost use Rattle.refusal.specs.Refusal.{answerNumber};
+ghost use Rattle.refusal.specs.Refusal.{answerNumber, answerCarried};
 ghost use Rattle.voice.specs.ChannelEnum.{stepAutoStop, stepFrequency, stepEnvelope};
 ghost use Rattle.vsu.specs.Core.{offChannel, offSwept, powerOn, decodeOf, anyPlays, stop, writeTo, write, sweepFifth, voicesAfter, sumsOf, SmallSums, frameOf, run, frames, framesDue, sides, allAtMost, voicesInRange, inRange, writeAnswer, advanceAnswer, movedNumber, runAnswer, runNumber, runOut};
 
@@ -413,7 +413,7 @@ pub fn in_range(u: Vsu) -> bool
 // A register write.
 pub fn write(u: Vsu, address: u32, value: u8) -> Moved
     ensures { λ r. ⌜ r ≡ writeAnswer address value u ⌝ }
-    ensures { λ r. ⌜ answerNumber (r .answer) ≡ movedNumber u ⌝ }
+    ensures { λ r. ⌜ (answerNumber (r .answer) ≡ movedNumber u) × (answerCarried (r .answer) ≡ 0) ⌝ }
 {
     if in_range(u) {
         return Moved {
@@ -488,7 +488,7 @@ fn skip(u: Vsu, n: u32) -> Vsu
 // n cycles without frames.
 pub fn advance(u: Vsu, n: u32) -> Moved
     ensures { λ r. ⌜ r ≡ advanceAnswer n u ⌝ }
-    ensures { λ r. ⌜ answerNumber (r .answer) ≡ movedNumber u ⌝ }
+    ensures { λ r. ⌜ (answerNumber (r .answer) ≡ movedNumber u) × (answerCarried (r .answer) ≡ 0) ⌝ }
 {
     if in_range(u) {
         return Moved {
@@ -505,7 +505,7 @@ pub fn advance(u: Vsu, n: u32) -> Moved
 // n cycles, whose frames fill the front of `out`.
 pub fn run(u: Vsu, n: u32, out: &mut [i16]) -> Ran
     ensures { λ r. ⌜ r ≡ runAnswer n u (length (now (out .entry))) ⌝ }
-    ensures { λ r. ⌜ answerNumber (r .answer) ≡ runNumber n u (length (now (out .entry))) ⌝ }
+    ensures { λ r. ⌜ (answerNumber (r .answer) ≡ runNumber n u (length (now (out .entry)))) × (answerCarried (r .answer) ≡ 0) ⌝ }
     ensures { λ r. ⌜ now (out .exit) ≡ runOut n u (now (out .entry)) ⌝ }
 {
     if !in_range(u) {

@@ -1,3 +1,4 @@
+use Rattle.log.proofs.AcceptedLaws as laws
 use mathlib.Core.Path.{refl}
 use Rattle.log.specs.Log.{standsAt}
 use borrow.Author.Needs.{needs}
@@ -12,7 +13,7 @@ due-at-requires c κs = search needs
 
 returns : tie.Need-returns
 unfolding standsAt
-returns c = rw ((c .due-at .ensures), (c .before .due-earlier .ensures)) refl
+returns c = laws.both-stand _ _ _ _ (rw (c .due-at .ensures, c .before .due-earlier .ensures) refl)
 
 pub stands-at-spec : {M : Type 1} → statement M
 stands-at-spec = tie.close (tie.spec due-earlier-requires due-at-requires returns)
