@@ -10,9 +10,10 @@ use lib.Dec.{eqb, leb, ltb}
 use lib.ListN.{getD, length}
 use Rattle.laws.proofs.Cases.{ways}
 use Rattle.little.specs.Little.{number}
+use Rattle.refusal.specs.Refusal.{numberOf, carriedOf}
 use Rattle.refusal.specs.declared.Refusal.{Refusal}
 use Rattle.refusal.specs.declared.Refusal.the-variants.{LogShort, LogEdition, LogHeader, LogCount, LogSize, LogEntry}
-use Rattle.log.specs.Log.{Layout, first, place, checkNumber, checkCarried, checkedNumber, checkedCarried, countedNumber, countedCarried, readNumber, readCarried, scanTold, dueBefore, dueBeforeOf, countIn, entryIn, entryOf, writesFrom, checkOf, countOf, cyclesOf, dueAt, dueEarlier, editionOf, faulty, headerOf, offsetOf, scan, writeAt}
+use Rattle.log.specs.Log.{Layout, first, place, checkNumber, checkCarried, checkTold, checkedNumber, checkedCarried, countedNumber, countedCarried, readNumber, readCarried, scanTold, dueBefore, dueBeforeOf, countIn, entryIn, entryOf, writesFrom, checkOf, countOf, cyclesOf, dueAt, dueEarlier, editionOf, faulty, headerOf, offsetOf, scan, writeAt}
 use Rattle.log.specs.declared.Checked.{Checked}
 use Rattle.log.specs.declared.Checked.the-variants as checked
 use Rattle.log.specs.declared.Counted.{Counted}
@@ -138,32 +139,28 @@ chosen : {A B : Type 0} (f : A → B) (t : Bool) {x y : A} {u v : B} → f x ≡
 chosen f true p q = p
 chosen f false p q = q
 
-module _ (f : Checked → ℕ) (eight : ℕ → ℕ) (log : (c k : ℕ) → f (checked.Log c k) ≡ 0) (entry : (i : ℕ) → f (checked.Refused (LogEntry i)) ≡ eight i) where
-  scan-told : (l : Layout) (b : List ℕ) (count cycles n i : ℕ) → f (scan l b count cycles n i) ≡ scanTold eight l b cycles n i
+module _ (f : Checked → ℕ) (told : ℕ → ℕ → ℕ) (log : (c k : ℕ) → f (checked.Log c k) ≡ 0) (refused : (why : Refusal) → f (checked.Refused why) ≡ told (numberOf why) (carriedOf why)) where
+  scan-told : (l : Layout) (b : List ℕ) (count cycles n i : ℕ) → f (scan l b count cycles n i) ≡ scanTold (told 8) l b cycles n i
   unfolding scan scanTold
   scan-told l b count cycles zero i = log count cycles
-  scan-told l b count cycles (suc n) i = chosen f (faulty l b cycles i) (entry i) (scan-told l b count cycles n (suc i))
+  scan-told l b count cycles (suc n) i = chosen f (faulty l b cycles i) (refused (LogEntry i)) (scan-told l b count cycles n (suc i))
+
+  check-told : (l : Layout) (b : List ℕ) → f (checkOf l b) ≡ checkTold told l b
+  unfolding checkOf checkTold
+  check-told l b =
+      chosen f (ltb (length b) (l .header)) (refused LogShort)
+      (chosen f (not (eqb (editionOf b) (l .edition))) (refused LogEdition)
+      (chosen f (not (eqb (headerOf b) (l .header)) || not (eqb (offsetOf b) (l .header))) (refused LogHeader)
+      (chosen f (ltb 1000000 (countOf b)) (refused LogCount)
+      (chosen f (not (eqb (length b) (place l (countOf b)))) (refused LogSize)
+      (scan-told l b (countOf b) (cyclesOf l b) (countOf b) 0)))))
 
 module _ (l : Layout) (b : List ℕ) where
   check-number : checkedNumber (checkOf l b) ≡ checkNumber l b
-  unfolding checkOf checkNumber
-  check-number =
-      chosen checkedNumber (ltb (length b) (l .header)) {x = checked.Refused LogShort} refl
-      (chosen checkedNumber (not (eqb (editionOf b) (l .edition))) {x = checked.Refused LogEdition} refl
-      (chosen checkedNumber (not (eqb (headerOf b) (l .header)) || not (eqb (offsetOf b) (l .header))) {x = checked.Refused LogHeader} refl
-      (chosen checkedNumber (ltb 1000000 (countOf b)) {x = checked.Refused LogCount} refl
-      (chosen checkedNumber (not (eqb (length b) (place l (countOf b)))) {x = checked.Refused LogSize} refl
-      (scan-told checkedNumber (λ (i : ℕ). 8) (λ c k. refl) (λ i. refl) l b (countOf b) (cyclesOf l b) (countOf b) 0)))))
+  check-number = check-told checkedNumber (λ n v. n) (λ c k. refl) (λ why. refl) l b
 
   check-carried : checkedCarried (checkOf l b) ≡ checkCarried l b
-  unfolding checkOf checkCarried
-  check-carried =
-      chosen checkedCarried (ltb (length b) (l .header)) {x = checked.Refused LogShort} refl
-      (chosen checkedCarried (not (eqb (editionOf b) (l .edition))) {x = checked.Refused LogEdition} refl
-      (chosen checkedCarried (not (eqb (headerOf b) (l .header)) || not (eqb (offsetOf b) (l .header))) {x = checked.Refused LogHeader} refl
-      (chosen checkedCarried (ltb 1000000 (countOf b)) {x = checked.Refused LogCount} refl
-      (chosen checkedCarried (not (eqb (length b) (place l (countOf b)))) {x = checked.Refused LogSize} refl
-      (scan-told checkedCarried (λ (i : ℕ). i) (λ c k. refl) (λ i. refl) l b (countOf b) (cyclesOf l b) (countOf b) 0)))))
+  check-carried = check-told checkedCarried (λ n v. v) (λ c k. refl) (λ why. refl) l b
 
   pub numbered : {r : Checked} → r ≡ checkOf l b → (r ≡ checkOf l b) × ((checkedNumber r ≡ checkNumber l b) × (checkedCarried r ≡ checkCarried l b))
   numbered e = (e, (ap checkedNumber e ∙ check-number, ap checkedCarried e ∙ check-carried))

@@ -97,21 +97,20 @@ unfoldable pub scanTold : (ℕ → ℕ) → Layout → List ℕ → ℕ → ℕ 
 scanTold eight l b cycles zero i = 0
 scanTold eight l b cycles (suc n) i = cond (faulty l b cycles i) (eight i) (scanTold eight l b cycles n (suc i))
 
-unfoldable pub checkNumber : Layout → List ℕ → ℕ
-checkNumber l b =
-    cond (ltb (length b) (l .header)) 3
-    (cond (not (eqb (editionOf b) (l .edition))) 4
-    (cond (not (eqb (headerOf b) (l .header)) || not (eqb (offsetOf b) (l .header))) 5
-    (cond (ltb 1000000 (countOf b)) 6
-    (cond (not (eqb (length b) (place l (countOf b)))) 7 (scanTold (λ (i : ℕ). 8) l b (cyclesOf l b) (countOf b) 0)))))
+-- what is told of an answer's number and its carried value
+unfoldable pub checkTold : (ℕ → ℕ → ℕ) → Layout → List ℕ → ℕ
+checkTold told l b =
+    cond (ltb (length b) (l .header)) (told 3 0)
+    (cond (not (eqb (editionOf b) (l .edition))) (told 4 0)
+    (cond (not (eqb (headerOf b) (l .header)) || not (eqb (offsetOf b) (l .header))) (told 5 0)
+    (cond (ltb 1000000 (countOf b)) (told 6 0)
+    (cond (not (eqb (length b) (place l (countOf b)))) (told 7 0) (scanTold (told 8) l b (cyclesOf l b) (countOf b) 0)))))
 
-unfoldable pub checkCarried : Layout → List ℕ → ℕ
-checkCarried l b =
-    cond (ltb (length b) (l .header)) 0
-    (cond (not (eqb (editionOf b) (l .edition))) 0
-    (cond (not (eqb (headerOf b) (l .header)) || not (eqb (offsetOf b) (l .header))) 0
-    (cond (ltb 1000000 (countOf b)) 0
-    (cond (not (eqb (length b) (place l (countOf b)))) 0 (scanTold (λ (i : ℕ). i) l b (cyclesOf l b) (countOf b) 0)))))
+abbrev pub checkNumber : Layout → List ℕ → ℕ
+checkNumber l b = checkTold (λ (number : ℕ) (carried : ℕ). number) l b
+
+abbrev pub checkCarried : Layout → List ℕ → ℕ
+checkCarried l b = checkTold (λ (number : ℕ) (carried : ℕ). carried) l b
 
 -- Writes.
 
