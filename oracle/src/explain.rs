@@ -2,8 +2,9 @@
 
 use crate::digest::{digest, Frames};
 use crate::image::state_of;
+use crate::reader::Reader;
 use crate::state::{named, read, write, State};
-use crate::stream::{Op, Reader};
+use crate::stream::{op, Op};
 use crate::vsu::core::VSU;
 
 /// One line for each op, with the fields that it changed; after op number `all`, every field and frame.
@@ -14,7 +15,7 @@ pub fn explain(bytes: &[u8], all: Option<u64>, print: &mut dyn FnMut(String)) ->
         let before = read(&unit);
         let mut frames = Frames::default();
         let mut loaded = false;
-        let line = match reader.op()? {
+        let line = match op(&mut reader)? {
             Op::Power => {
                 unit = VSU::new();
                 loaded = true;

@@ -15,6 +15,7 @@ pub mod log;
 pub mod logcases;
 pub mod logstream;
 pub mod random;
+pub mod reader;
 pub mod replay;
 pub mod sample;
 pub mod state;

@@ -2,6 +2,7 @@
 //! test the format.
 
 use crate::log::{check, due_before, entry, Refused};
+use crate::reader::Reader;
 
 /// The most bytes of a log in a stream: what a replaying program has room for.
 pub const MOST_BYTES: usize = 65_536;
@@ -102,45 +103,21 @@ impl Maker {
     }
 }
 
-/// Reads a stream op by op.
-pub struct Reader<'a> {
-    rest: &'a [u8],
-}
-
-impl<'a> Reader<'a> {
-    pub fn new(bytes: &'a [u8]) -> Self {
-        Reader { rest: bytes }
-    }
-
-    pub fn op(&mut self) -> Result<Op, String> {
-        Ok(match self.take(1)?[0] {
-            b'G' => {
-                let size = self.numbers::<1>()?[0] as usize;
-                if size > MOST_BYTES {
-                    return Err(format!("a log of {size} bytes is too long for a stream"));
-                }
-                Op::Log { bytes: self.take(size)?.to_vec(), answer: self.numbers()? }
+/// The next op of a stream.
+pub fn op(reader: &mut Reader) -> Result<Op, String> {
+    Ok(match reader.array::<1>()?[0] {
+        b'G' => {
+            let size = reader.number()? as usize;
+            if size > MOST_BYTES {
+                return Err(format!("a log of {size} bytes is too long for a stream"));
             }
-            b'I' => Op::Entry { index: self.numbers::<1>()?[0], answer: self.numbers()? },
-            b'D' => Op::Due { cycle: self.numbers::<1>()?[0], answer: self.numbers()? },
-            b'E' => Op::End,
-            other => return Err(format!("unknown op {other}")),
-        })
-    }
-
-    fn numbers<const N: usize>(&mut self) -> Result<[u32; N], String> {
-        let bytes = self.take(4 * N)?;
-        Ok(std::array::from_fn(|i| u32::from_le_bytes(bytes[4 * i..4 * i + 4].try_into().unwrap())))
-    }
-
-    fn take(&mut self, n: usize) -> Result<&'a [u8], String> {
-        if n > self.rest.len() {
-            return Err("the stream ends before its E".to_string());
+            Op::Log { bytes: reader.take(size)?.to_vec(), answer: reader.numbers()? }
         }
-        let (bytes, rest) = self.rest.split_at(n);
-        self.rest = rest;
-        Ok(bytes)
-    }
+        b'I' => Op::Entry { index: reader.number()?, answer: reader.numbers()? },
+        b'D' => Op::Due { cycle: reader.number()?, answer: reader.numbers()? },
+        b'E' => Op::End,
+        other => return Err(format!("unknown op {other}")),
+    })
 }
 
 /// The totals when everything agrees, else what differs first.
@@ -149,7 +126,7 @@ pub fn replay(bytes: &[u8]) -> Result<Totals, String> {
     let mut log = Vec::new();
     let mut totals = Totals::default();
     for number in 0u64.. {
-        match reader.op()? {
+        match op(&mut reader)? {
             Op::Log { bytes, answer } => {
                 log = bytes;
                 totals.logs += 1;

@@ -1,6 +1,7 @@
 use oracle::stream::Maker;
 use oracle::{bench, constants, explain, logcases, logstream, random, replay, sample};
 use std::io::{BufWriter, Read, Write};
+use std::mem::take;
 use std::process::exit;
 
 const USAGE: &str = "usage: oracle constants
@@ -21,13 +22,13 @@ fn main() {
         ["sample"] => write_sample(),
         ["random", seed, cases] => write_random(number(seed), number(cases), random::MAX_CYCLES),
         ["random", seed, cases, max] => write_random(number(seed), number(cases), number(max) as u32),
-        ["replay"] => run_replay(),
+        ["replay"] => report(replay::replay(&read_in())),
         ["explain"] => run_explain(None),
         ["explain", op] => run_explain(Some(number(op))),
         ["bench", cycles] => println!("{}", bench::bench(number(cycles) as usize)),
         ["logs", seed, cases] => write_logs(number(seed), number(cases)),
         ["logsample"] => write_logsample(),
-        ["logreplay"] => run_logreplay(),
+        ["logreplay"] => report(logstream::replay(&read_in())),
         _ => fail(USAGE),
     }
 }
@@ -58,38 +59,42 @@ fn write_sample() {
     eprintln!("made {}", maker.totals);
 }
 
+/// Writes the pieces and tells whether all went out: a reader that has found a difference closes its end, and that is no
+/// error of ours.
+fn pour(mut pieces: impl Iterator<Item = Vec<u8>>) -> bool {
+    let mut out = BufWriter::new(std::io::stdout().lock());
+    pieces.all(|piece| out.write_all(&piece).is_ok()) && out.flush().is_ok()
+}
+
 /// The totals go to standard error, so that a script can hold the replaying program's count against them.
 fn write_random(seed: u64, cases: u64, max_cycles: u32) {
-    let mut out = BufWriter::new(std::io::stdout().lock());
     let mut maker = Maker::new();
     let mut numbers = random::Numbers::new(seed);
-    for _ in 0..cases {
-        random::case(&mut maker, &mut numbers, max_cycles);
-        // a reader that has found a difference closes its end; that is no error of ours
-        if out.write_all(&maker.bytes).is_err() {
-            return;
+    let all = pour((0..=cases).map(|i| {
+        if i < cases {
+            random::case(&mut maker, &mut numbers, max_cycles)
+        } else {
+            maker.end()
         }
-        maker.bytes.clear();
-    }
-    maker.end();
-    if out.write_all(&maker.bytes).and_then(|_| out.flush()).is_ok() {
+        take(&mut maker.bytes)
+    }));
+    if all {
         eprintln!("made {}", maker.totals);
     }
 }
 
 fn write_logs(seed: u64, cases: u64) {
-    let mut out = BufWriter::new(std::io::stdout().lock());
     let mut maker = logstream::Maker::new();
     let mut numbers = random::Numbers::new(seed);
-    for _ in 0..cases {
-        logcases::case(&mut maker, &mut numbers);
-        if out.write_all(&maker.bytes).is_err() {
-            return;
+    let all = pour((0..=cases).map(|i| {
+        if i < cases {
+            logcases::case(&mut maker, &mut numbers)
+        } else {
+            maker.end()
         }
-        maker.bytes.clear();
-    }
-    maker.end();
-    if out.write_all(&maker.bytes).and_then(|_| out.flush()).is_ok() {
+        take(&mut maker.bytes)
+    }));
+    if all {
         eprintln!("made {}", maker.totals);
     }
 }
@@ -107,18 +112,8 @@ fn write_logsample() {
     eprintln!("made {}", maker.totals);
 }
 
-fn run_logreplay() {
-    match logstream::replay(&read_in()) {
-        Ok(totals) => println!("agreed {totals}"),
-        Err(text) => {
-            println!("differs {text}");
-            exit(1);
-        }
-    }
-}
-
-fn run_replay() {
-    match replay::replay(&read_in()) {
+fn report<T: std::fmt::Display>(replayed: Result<T, String>) {
+    match replayed {
         Ok(totals) => println!("agreed {totals}"),
         Err(text) => {
             println!("differs {text}");

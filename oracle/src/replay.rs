@@ -2,8 +2,9 @@
 
 use crate::digest::{digest, FrameSum};
 use crate::image::state_of;
+use crate::reader::Reader;
 use crate::state::write;
-use crate::stream::{Op, Reader, Totals};
+use crate::stream::{op, Op, Totals};
 use crate::vsu::core::VSU;
 
 /// The totals when everything agrees, else what differs first.
@@ -12,7 +13,7 @@ pub fn replay(bytes: &[u8]) -> Result<Totals, String> {
     let mut unit = VSU::new();
     let mut totals = Totals::default();
     for number in 0u64.. {
-        match reader.op()? {
+        match op(&mut reader)? {
             Op::Power => {
                 unit = VSU::new();
                 totals.cases += 1;

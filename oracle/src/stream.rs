@@ -2,6 +2,7 @@
 
 use crate::digest::{digest_state, FrameSum};
 use crate::image::{image_of, LENGTH};
+use crate::reader::Reader;
 use crate::state::{in_range, read, write, State};
 use crate::vsu::core::VSU;
 
@@ -109,40 +110,16 @@ impl Maker {
     }
 }
 
-/// Reads a stream op by op.
-pub struct Reader<'a> {
-    rest: &'a [u8],
-}
-
-impl<'a> Reader<'a> {
-    pub fn new(bytes: &'a [u8]) -> Self {
-        Reader { rest: bytes }
-    }
-
-    pub fn op(&mut self) -> Result<Op, String> {
-        Ok(match self.take::<1>()?[0] {
-            b'P' => Op::Power,
-            b'L' => Op::Load(Box::new(self.take::<LENGTH>()?)),
-            b'W' => Op::Write { address: self.number()?, byte: self.take::<1>()?[0] },
-            b'R' => Op::Run { n: self.number()?, made: FrameSum { frames: self.number()?, sum: self.number()? } },
-            b'A' => Op::Silent { n: self.number()? },
-            b'S' => Op::State { digest: self.number()? },
-            b'E' => Op::End,
-            other => return Err(format!("unknown op {other}")),
-        })
-    }
-
-    fn number(&mut self) -> Result<u32, String> {
-        Ok(u32::from_le_bytes(self.take::<4>()?))
-    }
-
-    fn take<const N: usize>(&mut self) -> Result<[u8; N], String> {
-        match self.rest.split_first_chunk::<N>() {
-            Some((bytes, rest)) => {
-                self.rest = rest;
-                Ok(*bytes)
-            }
-            None => Err("the stream ends before its E".to_string()),
-        }
-    }
+/// The next op of a stream.
+pub fn op(reader: &mut Reader) -> Result<Op, String> {
+    Ok(match reader.array::<1>()?[0] {
+        b'P' => Op::Power,
+        b'L' => Op::Load(Box::new(reader.array::<LENGTH>()?)),
+        b'W' => Op::Write { address: reader.number()?, byte: reader.array::<1>()?[0] },
+        b'R' => Op::Run { n: reader.number()?, made: FrameSum { frames: reader.number()?, sum: reader.number()? } },
+        b'A' => Op::Silent { n: reader.number()? },
+        b'S' => Op::State { digest: reader.number()? },
+        b'E' => Op::End,
+        other => return Err(format!("unknown op {other}")),
+    })
 }

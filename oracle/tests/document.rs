@@ -3,9 +3,10 @@
 use oracle::digest::{digest_state, fold, FrameSum};
 use oracle::image::state_of;
 use oracle::random::{case, Numbers};
+use oracle::reader::Reader;
 use oracle::sample::sample;
 use oracle::state::{power_on, State, NOISE, SWEPT, TAPS};
-use oracle::stream::{Maker, Op, Reader};
+use oracle::stream::{op, Maker, Op};
 
 /// "Register writes"
 fn write(s: &mut State, address: u32, byte: u32) {
@@ -214,7 +215,7 @@ fn replay(bytes: &[u8]) {
     let mut reader = Reader::new(bytes);
     let mut s = power_on();
     for number in 0.. {
-        match reader.op().unwrap() {
+        match op(&mut reader).unwrap() {
             Op::Power => s = power_on(),
             Op::Load(image) => s = state_of(&image).unwrap(),
             Op::Write { address, byte } => write(&mut s, address, byte as u32),

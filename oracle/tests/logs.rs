@@ -3,8 +3,9 @@
 
 use oracle::log::{self, bytes_of, Refused, Write};
 use oracle::logcases;
-use oracle::logstream::{replay, Maker, Op, Reader, MOST_BYTES};
+use oracle::logstream::{op, replay, Maker, Op, MOST_BYTES};
 use oracle::random::Numbers;
+use oracle::reader::Reader;
 
 /// Everything that the bytes say, in 64 bits, with no rule applied. A field that the bytes end before is `None`.
 struct Decoded {
@@ -98,7 +99,7 @@ fn hold(stream: &[u8], seen: &mut Seen) {
     let mut reader = Reader::new(stream);
     let (mut bytes, mut decoded) = (Vec::new(), decode(&[]));
     loop {
-        match reader.op().unwrap() {
+        match op(&mut reader).unwrap() {
             Op::Log { bytes: next, answer } => {
                 bytes = next;
                 decoded = decode(&bytes);
