@@ -35,7 +35,7 @@ length-told X Y f l n e = sym (length-map l f) ∙ e
 
 -- what owning an array of signed bytes tells of its entries
 each-byte : (xs : List ℤ) (us : List Val) → shadow (each ℤ (SInt w8 .own) xs us) → allBytes xs ≡ true
-unfolding allBytes
+unfolding allAtMost
 each-byte [] us p = refl
 each-byte (x ∷ xs) [] p = absurd p
 each-byte (x ∷ xs) (u ∷ us) p = rw (le-leb (mag x) 127 (omega (arith, p .0 .1)), each-byte xs us (p .1))

@@ -2,7 +2,7 @@
 use Prim.Native.Nat.{ℕ, zero, suc, _+_, _*_, _/_, _%_, _<_, _≤_}
 use mathlib.Core.Path.{_≡_, refl, sym, ap, subst, _∙_}
 use mathlib.Core.Bool.{Bool, true, false, cond, _&&_}
-use mathlib.Core.List.{List, [], _∷_, map}
+use mathlib.Core.List.{List, [], _∷_, map, map-id}
 use mathlib.Core.Logic.{_≢_}
 use native.Mathlib.Decide.{ℕ-discrete}
 use native.Mathlib.Omega.{arith}
@@ -199,17 +199,14 @@ run-keeps (suc n) u h = cycle-keeps (run n u) (run-keeps n u h)
 
 -- "and under every write"
 
-small-set : (l : List ℕ) (i x : ℕ) → x ≤ 63 → allAtMost 63 l ≡ true → allAtMost 63 (set l i x) ≡ true
+sized-set : {A : Type 0} (f : A → ℕ) (most : ℕ) (l : List A) (i : ℕ) (x : A) → f x ≤ most → allAtMost most (map f l) ≡ true → allAtMost most (map f (set l i x)) ≡ true
 unfolding allAtMost
-small-set [] i x h p = p
-small-set (y ∷ l) zero x h p = each (leb y 63) (allAtMost 63 l ∷ []) p (λ k. both (le-leb x 63 h) (k .1 .0))
-small-set (y ∷ l) (suc i) x h p = each (leb y 63) (allAtMost 63 l ∷ []) p (λ k. both (k .0) (small-set l i x h (k .1 .0)))
+sized-set f most [] i x h p = p
+sized-set f most (y ∷ l) zero x h p = each (leb (f y) most) (allAtMost most (map f l) ∷ []) p (λ k. both (le-leb (f x) most h) (k .1 .0))
+sized-set f most (y ∷ l) (suc i) x h p = each (leb (f y) most) (allAtMost most (map f l) ∷ []) p (λ k. both (k .0) (sized-set f most l i x h (k .1 .0)))
 
-bytes-set : (l : List ℤ) (i : ℕ) (x : ℤ) → mag x ≤ 127 → allBytes l ≡ true → allBytes (set l i x) ≡ true
-unfolding allBytes
-bytes-set [] i x h p = p
-bytes-set (y ∷ l) zero x h p = each (leb (mag y) 127) (allBytes l ∷ []) p (λ k. both (le-leb (mag x) 127 h) (k .1 .0))
-bytes-set (y ∷ l) (suc i) x h p = each (leb (mag y) 127) (allBytes l ∷ []) p (λ k. both (k .0) (bytes-set l i x h (k .1 .0)))
+small-set : (l : List ℕ) (i x : ℕ) → x ≤ 63 → allAtMost 63 l ≡ true → allAtMost 63 (set l i x) ≡ true
+small-set l i x h p = rw map-id at (sized-set (λ (n : ℕ). n) 63 l i x h (rw map-id p))
 
 signed-byte : (b : ℕ) → b < 256 → mag (signed b) ≤ 127
 unfolding signed
@@ -249,7 +246,7 @@ module _ (u : Vsu) (k : InRange u) (b : ℕ) (h : b < 256) where
         waves = k .waves;
         small = k .small;
         entries = length-set (u .modulation) at (signed b) ∙ k .entries;
-        bytes = bytes-set (u .modulation) at (signed b) (signed-byte b h) (k .bytes);
+        bytes = sized-set mag 127 (u .modulation) at (signed b) (signed-byte b h) (k .bytes);
         output = k .output;
       })
   write-facts (registers.Channel j o) =
@@ -279,7 +276,7 @@ pub write-keeps : (u : Vsu) (a b : ℕ) → b < 256 → inRange u ≡ true → i
 write-keeps u a b h r = range-test (write a b u) (write-facts u (range-facts u r) b h (decodeOf a))
 
 pub power-on-in-range : inRange powerOn ≡ true
-unfolding inRange shaped voicesInRange powerOn allAtMost allBytes waveInRange sweptInRange noiseInRange waveKindInRange sweptKindInRange noiseKindInRange channelInRange liveInRange pitchInRange envelopeInRange sweepInRange
+unfolding inRange shaped voicesInRange powerOn allAtMost waveInRange sweptInRange noiseInRange waveKindInRange sweptKindInRange noiseKindInRange channelInRange liveInRange pitchInRange envelopeInRange sweepInRange
 power-on-in-range = refl
 
 -- the sums of a state in range

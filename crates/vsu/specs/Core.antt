@@ -205,9 +205,8 @@ voicesInRange vs =
     waveInRange (voiceAt 0 vs) && waveInRange (voiceAt 1 vs) && waveInRange (voiceAt 2 vs) && waveInRange (voiceAt 3 vs) && sweptInRange (voiceAt 4 vs) && noiseInRange (voiceAt 5 vs)
 
 -- "the modulation byte is signed, from -128 to 127": `mag` of `pos n` and of `negsuc n` is n
-unfoldable pub allBytes : List ℤ → Bool
-allBytes [] = true
-allBytes (x ∷ xs) = leb (mag x) 127 && allBytes xs
+abbrev pub allBytes : List ℤ → Bool
+allBytes xs = allAtMost 127 (map mag xs)
 
 -- what the code's types fix: six voices, 5 × 32 samples, 32 entries
 unfoldable pub shaped : Vsu → Bool
