@@ -308,7 +308,7 @@ pub fn sample(v: Voice, volume: u8, waves: &[u8; 160]) -> u32
     channel::sample_side(c.envelope.level, volume, output(kind, waves))
 }
 
-fn is_tap(t: u8) -> bool
+pub fn is_tap(t: u32) -> bool
     ensures { λ r. ⌜ r ≡ isTap t ⌝ }
 {
     (t == 14) | (t == 10) | (t == 13) | (t == 4) | (t == 8) | (t == 6) | (t == 9) | (t == 11)
@@ -377,7 +377,7 @@ pub fn noise_in_range(v: Voice) -> bool
         } => false,
         Kind::Noise { shift, tap, output } => {
             channel::in_range(c, 39)
-                & ((shift <= 32_767) & is_tap(tap) & (output == (shift % 2 == 1)))
+                & ((shift <= 32_767) & is_tap(tap as u32) & (output == (shift % 2 == 1)))
         }
     }
 }

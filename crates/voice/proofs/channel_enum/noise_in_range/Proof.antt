@@ -16,6 +16,9 @@ enum-known-k c = search needs
 in-range-requires : tie.Need-in-range-requires
 in-range-requires c κs = search needs
 
+cast-is-tap : tie.Need-cast-is-tap
+cast-is-tap c = search needs
+
 is-tap-requires : tie.Need-is-tap-requires
 is-tap-requires c κs = search needs
 
@@ -39,6 +42,7 @@ noise-in-range-spec =
     enum-told-2
     enum-known-k
     in-range-requires
+    cast-is-tap
     is-tap-requires
     returns
     returns-2
