@@ -1,0 +1,3 @@
+pub mod fields;
+pub mod image;
+pub mod table;
