@@ -11,7 +11,9 @@ use lib.Dec.{eqb, leb, ltb}
 use lib.ListN.{getD, drop, length}
 use lib.Seq.{drop-cons}
 use Rattle.laws.proofs.Cases.{both, each, ways}
-use Rattle.image.specs.Table.{cellAt, cells, noCell, partIn, partOf, parts, rowAt, rowIn}
+use Rattle.image.specs.Table.{cellAt, cellsOf, noCell, partIn, partOf, parts, rowAt, rowIn}
+use Rattle.image.specs.declared.table.Block.{Block}
+use Rattle.image.specs.declared.table.Block.the-variants.{Header, Sample, Entry, Wave, Noise, Sweep}
 use Rattle.image.specs.declared.table.Cell.{Cell}
 use Rattle.image.specs.declared.table.Part.{Part}
 use Rattle.image.specs.declared.table.Row.{Row}
@@ -33,12 +35,11 @@ pub record Sound (field : ℕ) (p : Part) : Type 0 where
   pub begins : p .0 ≤ field
   pub offset : p .1 ≤ 400
   pub size : p .2 ≤ 32
-  pub first : p .3 ≤ 47
   pub some : 0 < p .4
   pub cells : p .4 ≤ 19
 
 abbrev soundPart : Part → Bool
-soundPart p = leb (p .1) 400 && leb (p .2) 32 && leb (p .3) 47 && leb 1 (p .4) && leb (p .4) 19
+soundPart p = leb (p .1) 400 && leb (p .2) 32 && leb 1 (p .4) && leb (p .4) 19
 
 abbrev everyPart : List Part → Bool
 everyPart [] = true
@@ -46,15 +47,14 @@ everyPart (p ∷ ps) = soundPart p && everyPart ps
 
 sound : (field : ℕ) (p : Part) → p .0 ≤ field → soundPart p ≡ true → Sound field p
 sound field p h t =
-    each (leb (p .1) 400) (leb (p .2) 32 ∷ leb (p .3) 47 ∷ leb 1 (p .4) ∷ leb (p .4) 19 ∷ []) t
+    each (leb (p .1) 400) (leb (p .2) 32 ∷ leb 1 (p .4) ∷ leb (p .4) 19 ∷ []) t
     (λ k.
     record {
       begins = h;
       offset = leb-true _ _ (k .0);
       size = leb-true _ _ (k .1 .0);
-      first = leb-true _ _ (k .1 .1 .0);
-      some = leb-true _ _ (k .1 .1 .1 .0);
-      cells = leb-true _ _ (k .1 .1 .1 .1 .0);
+      some = leb-true _ _ (k .1 .1 .0);
+      cells = leb-true _ _ (k .1 .1 .1 .0);
     })
 
 sound-in : (field : ℕ) (p : Part) (qs : List Part) → Sound field p → everyPart qs ≡ true → Sound field (partIn field p qs)
@@ -66,7 +66,7 @@ sound-in field p (q ∷ qs) s t =
 
 pub part-sound : (field : ℕ) {p : Part} → p ≡ partOf field → Sound field p
 unfolding partOf
-part-sound field e = subst (Sound field) (sym e) (sound-in field (getD parts 0 (0, 0, 0, 0, 0)) (drop 1 parts) (sound field _ (omega arith) refl) refl)
+part-sound field e = subst (Sound field) (sym e) (sound-in field (getD parts 0 (0, 0, 0, Header, 0)) (drop 1 parts) (sound field _ (omega arith) refl) refl)
 
 -- an offset in a part
 abbrev lowCells : List Cell → Bool
@@ -78,16 +78,24 @@ low-at [] i d h t = h
 low-at (c ∷ cs) zero d h t = each (leb (c .0) 30) (lowCells cs ∷ []) t (λ k. leb-true _ _ (k .0))
 low-at (c ∷ cs) (suc i) d h t = each (leb (c .0) 30) (lowCells cs ∷ []) t (λ k. low-at cs i d h (k .1 .0))
 
-pub cell-low : (i : ℕ) {c : Cell} → c ≡ cellAt i → c .0 ≤ 30
+low-block : (block : Block) → lowCells (cellsOf block) ≡ true
+low-block Header = refl
+low-block Sample = refl
+low-block Entry = refl
+low-block Wave = refl
+low-block Noise = refl
+low-block Sweep = refl
+
+pub cell-low : (block : Block) (i : ℕ) {c : Cell} → c ≡ cellAt block i → c .0 ≤ 30
 unfolding cellAt
-cell-low i e = rw e (low-at cells i noCell (omega arith) refl)
+cell-low block i e = rw e (low-at (cellsOf block) i noCell (omega arith) (low-block block))
 
 module _ {field : ℕ} {p : Part} (s : Sound field p) (small : field < 65536) where
   abbrev within : ℕ
   within = field - p .0
 
-  pub cell-fits : p .3 + within % p .4 < 2 ^ 32
-  cell-fits = omega (arith, mod-lt within (s .some), s .first, s .cells)
+  pub within-fits : within % p .4 < 2 ^ 64
+  within-fits = omega (arith, mod-lt within (s .some), s .cells)
 
   pub repeat-fits : p .2 * (within / p .4) ≤ 32 * 65535
   repeat-fits =
@@ -96,6 +104,6 @@ module _ {field : ℕ} {p : Part} (s : Sound field p) (small : field < 65536) wh
   pub place-fits : p .1 + p .2 * (within / p .4) ≤ 400 + 32 * 65535
   place-fits = omega (arith, repeat-fits, s .offset)
 
-pub row-of : (field : ℕ) {p : Part} {c : Cell} → p ≡ partOf field → c ≡ cellAt (p .3 + (field - p .0) % p .4) → _≡_ {A = Row} (record { offset = p .1 + p .2 * ((field - p .0) / p .4) + c .0; width = c .1; most = c .2; own = c .3 }) (rowAt field)
+pub row-of : (field : ℕ) {p : Part} {c : Cell} → p ≡ partOf field → c ≡ cellAt (p .3) ((field - p .0) % p .4) → _≡_ {A = Row} (record { offset = p .1 + p .2 * ((field - p .0) / p .4) + c .0; width = c .1; most = c .2; own = c .3 }) (rowAt field)
 unfolding rowIn
 row-of field e d = rw (d, e)

@@ -7,6 +7,8 @@ use lib.ListN.{getD, drop}
 use Rattle.little.specs.declared.Width.{Width}
 use Rattle.little.specs.declared.Width.the-variants.{U8, U16, U32}
 use Rattle.voice.specs.ChannelEnum.{isTap}
+use Rattle.image.specs.declared.table.Block.{Block}
+use Rattle.image.specs.declared.table.Block.the-variants.{Header, Sample, Entry, Wave, Noise, Sweep}
 use Rattle.image.specs.declared.table.Cell.{Cell}
 use Rattle.image.specs.declared.table.Own.{Own}
 use Rattle.image.specs.declared.table.Own.the-variants.{None, Exactly, Tap, LowestBit}
@@ -54,21 +56,26 @@ sweep =
     ∷ (9, U8, 0, None) ∷ (10, U16, 2047, None) ∷ (12, U16, 2047, None) ∷ (14, U16, 2047, None) ∷ (16, U16, 479, None)
     ∷ (18, U16, 0, None) ∷ []
 
-abbrev pub cells : List Cell
-cells = header ++ sample ++ entry ++ wave ++ noise ++ sweep
-
--- "Waves at 16 (5 × 32), modulation at 176"; channel blocks at 208; sweep at 400. A part: the number of its first field, its offset,
--- its size, its first cell, how many cells it has; it comes again until the next one begins.
-abbrev pub parts : List Part
-parts =
-    (0, 0, 16, 0, 7) ∷ (7, 16, 1, 7, 1) ∷ (167, 176, 1, 8, 1) ∷ (199, 208, 32, 9, 19) ∷ (294, 368, 32, 28, 19)
-    ∷ (313, 400, 20, 47, 12) ∷ []
-
 abbrev pub noCell : Cell
 noCell = (0, U8, 0, None)
 
-unfoldable pub cellAt : ℕ → Cell
-cellAt i = getD cells i noCell
+abbrev pub cellsOf : Block → List Cell
+cellsOf Header = header
+cellsOf Sample = sample
+cellsOf Entry = entry
+cellsOf Wave = wave
+cellsOf Noise = noise
+cellsOf Sweep = sweep
+
+unfoldable pub cellAt : Block → ℕ → Cell
+cellAt block i = getD (cellsOf block) i noCell
+
+-- "Waves at 16 (5 × 32), modulation at 176"; channel blocks at 208; sweep at 400. A part: the number of its first field, its offset,
+-- its size, what it is made of, of how many cells; it comes again until the next one begins.
+abbrev pub parts : List Part
+parts =
+    (0, 0, 16, Header, 7) ∷ (7, 16, 1, Sample, 1) ∷ (167, 176, 1, Entry, 1) ∷ (199, 208, 32, Wave, 19) ∷ (294, 368, 32, Noise, 19)
+    ∷ (313, 400, 20, Sweep, 12) ∷ []
 
 -- the last part that begins no later than a field
 unfoldable pub partIn : ℕ → Part → List Part → Part
@@ -76,13 +83,13 @@ partIn field p [] = p
 partIn field p (q ∷ qs) = cond (ltb field (q .0)) p (partIn field q qs)
 
 unfoldable pub partOf : ℕ → Part
-partOf field = partIn field (getD parts 0 (0, 0, 0, 0, 0)) (drop 1 parts)
+partOf field = partIn field (getD parts 0 (0, 0, 0, Header, 0)) (drop 1 parts)
 
 -- a field by its number, counted in rising order of offsets
 unfoldable pub rowIn : ℕ → Part → Row
 rowIn field p =
     let n : ℕ = field - p .0 in
-    let c : Cell = cellAt (p .3 + n % p .4) in
+    let c : Cell = cellAt (p .3) (n % p .4) in
     record { offset = p .1 + p .2 * (n / p .4) + c .0; width = c .1; most = c .2; own = c .3 }
 
 abbrev pub rowAt : ℕ → Row

@@ -2,7 +2,8 @@
 use little::Width;
 use voice::channel_enum;
 ghost use mathlib.Core.Path.{_≡_};
-ghost use Rattle.image.specs.Table.{cellAt, partOf, rowAt, brokenBy, faulty};
+ghost use lib.ListN.{getD};
+ghost use Rattle.image.specs.Table.{header, sample, entry, wave, noise, sweep, noCell, cellAt, partOf, rowAt, brokenBy, faulty};
 
 // What a field's value keeps to besides its largest.
 pub enum Own {
@@ -24,23 +25,35 @@ pub struct Row {
 // A field of a part, with its offset in the part.
 pub struct Cell(pub u32, pub Width, pub u32, pub Own);
 
-// A part of the image that comes once or several times: the number of its first field, its offset, its size, its first cell, and
-// how many cells it has.
-pub struct Part(pub u16, pub u32, pub u32, pub u32, pub u32);
+// What a part is made of.
+pub enum Block {
+    Header,
+    Sample,
+    Entry,
+    Wave,
+    Noise,
+    Sweep,
+}
+
+// A part of the image, which comes again until the next one begins: the number of its first field, its offset, its size, what it is
+// made of, and of how many cells.
+pub struct Part(pub u16, pub u32, pub u32, pub Block, pub u32);
 
 pub const FIELDS: usize = 325;
 
 const PARTS: [Part; 6] = [
-    Part(0, 0, 16, 0, 7),
-    Part(7, 16, 1, 7, 1),
-    Part(167, 176, 1, 8, 1),
-    Part(199, 208, 32, 9, 19),
-    Part(294, 368, 32, 28, 19),
-    Part(313, 400, 20, 47, 12),
+    Part(0, 0, 16, Block::Header, 7),
+    Part(7, 16, 1, Block::Sample, 1),
+    Part(167, 176, 1, Block::Entry, 1),
+    Part(199, 208, 32, Block::Wave, 19),
+    Part(294, 368, 32, Block::Noise, 19),
+    Part(313, 400, 20, Block::Sweep, 12),
 ];
 
-const CELLS: [Cell; 59] = [
-    // header: edition, header length, total, waves, channels, channel offset, sweep offset
+// A table for each, of the size that the prover takes in seconds: one of all 59 cells takes it three minutes.
+
+// Edition, header length, total, waves, channels, channel offset, sweep offset.
+const HEADER: [Cell; 7] = [
     Cell(0, Width::U16, 1, Own::Exactly),
     Cell(2, Width::U16, 16, Own::Exactly),
     Cell(4, Width::U32, 420, Own::Exactly),
@@ -48,12 +61,15 @@ const CELLS: [Cell; 59] = [
     Cell(10, Width::U16, 6, Own::Exactly),
     Cell(12, Width::U16, 208, Own::Exactly),
     Cell(14, Width::U16, 400, Own::Exactly),
-    // a wave's sample
-    Cell(0, Width::U8, 63, Own::None),
-    // a modulation entry
-    Cell(0, Width::U8, 255, Own::None),
-    // channels 0 to 4: flags, live interval, its counter, left, right, level, envelope interval, reload, envelope step, bank,
-    // position, zero, frequency, its counter, live tick, tick, envelope tick, shift (zero for waves), zero
+];
+
+const SAMPLE: [Cell; 1] = [Cell(0, Width::U8, 63, Own::None)];
+
+const ENTRY: [Cell; 1] = [Cell(0, Width::U8, 255, Own::None)];
+
+// Channels 0 to 4: flags, live interval, its counter, left, right, level, envelope interval, reload, envelope step, bank, position,
+// zero, frequency, its counter, live tick, tick, envelope tick, shift (zero for waves), zero.
+const WAVE: [Cell; 19] = [
     Cell(0, Width::U8, 31, Own::None),
     Cell(1, Width::U8, 31, Own::None),
     Cell(2, Width::U8, 31, Own::None),
@@ -73,7 +89,10 @@ const CELLS: [Cell; 59] = [
     Cell(24, Width::U32, 307_218, Own::None),
     Cell(28, Width::U16, 0, Own::None),
     Cell(30, Width::U16, 0, Own::None),
-    // channel 5: the same, with tap and output for bank and position
+];
+
+// Channel 5: the same, with tap and output for bank and position.
+const NOISE: [Cell; 19] = [
     Cell(0, Width::U8, 31, Own::None),
     Cell(1, Width::U8, 31, Own::None),
     Cell(2, Width::U8, 31, Own::None),
@@ -93,8 +112,10 @@ const CELLS: [Cell; 59] = [
     Cell(24, Width::U32, 307_218, Own::None),
     Cell(28, Width::U16, 32_767, Own::None),
     Cell(30, Width::U16, 0, Own::None),
-    // sweep: flags, interval, shift, interval counter, step counter, index, zero, last written, current, next; then the output
-    // counter and zero
+];
+
+// Flags, interval, shift, interval counter, step counter, index, zero, last written, current, next; then the output counter and zero.
+const SWEEP: [Cell; 12] = [
     Cell(0, Width::U8, 31, Own::None),
     Cell(1, Width::U8, 7, Own::None),
     Cell(2, Width::U8, 7, Own::None),
@@ -109,13 +130,77 @@ const CELLS: [Cell; 59] = [
     Cell(18, Width::U16, 0, Own::None),
 ];
 
-fn cell_at(i: u32) -> Cell
-    ensures { λ r. ⌜ r ≡ cellAt i ⌝ }
+fn no_cell() -> Cell
+    ensures { λ r. ⌜ r ≡ noCell ⌝ }
 {
-    if i > 58 {
-        return Cell(0, Width::U8, 0, Own::None);
+    Cell(0, Width::U8, 0, Own::None)
+}
+
+fn header_cell(i: usize) -> Cell
+    ensures { λ r. ⌜ r ≡ getD header i noCell ⌝ }
+{
+    if i > 6 {
+        return no_cell();
     }
-    CELLS[i as usize]
+    HEADER[i]
+}
+
+fn sample_cell(i: usize) -> Cell
+    ensures { λ r. ⌜ r ≡ getD sample i noCell ⌝ }
+{
+    if i > 0 {
+        return no_cell();
+    }
+    SAMPLE[i]
+}
+
+fn entry_cell(i: usize) -> Cell
+    ensures { λ r. ⌜ r ≡ getD entry i noCell ⌝ }
+{
+    if i > 0 {
+        return no_cell();
+    }
+    ENTRY[i]
+}
+
+fn wave_cell(i: usize) -> Cell
+    ensures { λ r. ⌜ r ≡ getD wave i noCell ⌝ }
+{
+    if i > 18 {
+        return no_cell();
+    }
+    WAVE[i]
+}
+
+fn noise_cell(i: usize) -> Cell
+    ensures { λ r. ⌜ r ≡ getD noise i noCell ⌝ }
+{
+    if i > 18 {
+        return no_cell();
+    }
+    NOISE[i]
+}
+
+fn sweep_cell(i: usize) -> Cell
+    ensures { λ r. ⌜ r ≡ getD sweep i noCell ⌝ }
+{
+    if i > 11 {
+        return no_cell();
+    }
+    SWEEP[i]
+}
+
+fn cell_at(block: Block, i: usize) -> Cell
+    ensures { λ r. ⌜ r ≡ cellAt block i ⌝ }
+{
+    match block {
+        Block::Header => header_cell(i),
+        Block::Sample => sample_cell(i),
+        Block::Entry => entry_cell(i),
+        Block::Wave => wave_cell(i),
+        Block::Noise => noise_cell(i),
+        Block::Sweep => sweep_cell(i),
+    }
 }
 
 // The part that a field is in: the last that begins no later.
@@ -141,7 +226,8 @@ pub(crate) fn row_at(field: u16) -> Row
 {
     let p = part_of(field);
     let n = (field - p.0) as u32;
-    let c = cell_at(p.3 + n % p.4);
+    let block = p.3;
+    let c = cell_at(block, (n % p.4) as usize);
     let width = c.1;
     let own = c.3;
     Row {

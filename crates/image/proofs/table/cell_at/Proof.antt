@@ -1,29 +1,87 @@
-use mathlib.Core.Path.{refl, sym}
-use lib.ListN.{List·getD-eq-default}
-use Rattle.image.specs.Table.{cells, noCell, cellAt}
+use Rattle.image.specs.Table.{cellAt}
 use borrow.Author.Needs.{needs}
 use Rattle.image.proofs.table.cell_at.Statement.{statement}
 use Rattle.image.proofs.table.cell_at.Tie as tie
-use Rattle.image.proofs.table.cell_at.Reads as reads
-use Rattle.image.proofs.table.cell_at.Lts as lts
 
--- src/table.rt:116:9
+enum-told : tie.Need-enum-told
+enum-told c = search needs
+
+header-cell-requires : tie.Need-header-cell-requires
+header-cell-requires c κs = search needs
+
+enum-told-2 : tie.Need-enum-told-2
+enum-told-2 c = search needs
+
+sample-cell-requires : tie.Need-sample-cell-requires
+sample-cell-requires c κs = search needs
+
+enum-told-3 : tie.Need-enum-told-3
+enum-told-3 c = search needs
+
+entry-cell-requires : tie.Need-entry-cell-requires
+entry-cell-requires c κs = search needs
+
+enum-told-4 : tie.Need-enum-told-4
+enum-told-4 c = search needs
+
+wave-cell-requires : tie.Need-wave-cell-requires
+wave-cell-requires c κs = search needs
+
+enum-told-5 : tie.Need-enum-told-5
+enum-told-5 c = search needs
+
+noise-cell-requires : tie.Need-noise-cell-requires
+noise-cell-requires c κs = search needs
+
+enum-told-6 : tie.Need-enum-told-6
+enum-told-6 c = search needs
+
+sweep-cell-requires : tie.Need-sweep-cell-requires
+sweep-cell-requires c κs = search needs
+
 returns : tie.Need-returns
 unfolding cellAt
-returns c = sym (List·getD-eq-default cells noCell (c .if1 .taken))
+returns c = rw (c .before .enum-told .given .1) (c .header-cell .ensures)
 
--- src/table.rt:118:5
-mul-result : tie.Need-mul-result
-mul-result c = search needs
-
--- src/table.rt:118:5
-array-copy-out-result : tie.Need-array-copy-out-result
-array-copy-out-result c = search needs
-
--- src/table.rt:112:1
 returns-2 : tie.Need-returns-2
 unfolding cellAt
-returns-2 c = refl
+returns-2 c = rw (c .before .enum-told2 .given .1) (c .sample-cell .ensures)
+
+returns-3 : tie.Need-returns-3
+unfolding cellAt
+returns-3 c = rw (c .before .enum-told3 .given .1) (c .entry-cell .ensures)
+
+returns-4 : tie.Need-returns-4
+unfolding cellAt
+returns-4 c = rw (c .before .enum-told4 .given .1) (c .wave-cell .ensures)
+
+returns-5 : tie.Need-returns-5
+unfolding cellAt
+returns-5 c = rw (c .before .enum-told5 .given .1) (c .noise-cell .ensures)
+
+returns-6 : tie.Need-returns-6
+unfolding cellAt
+returns-6 c = rw (c .before .enum-told6 .given .1) (c .sweep-cell .ensures)
 
 pub cell-at-spec : {M : Type 1} → statement M
-cell-at-spec = tie.close (tie.spec returns mul-result array-copy-out-result returns-2)
+cell-at-spec =
+    tie.close
+    (tie.spec
+    enum-told
+    header-cell-requires
+    enum-told-2
+    sample-cell-requires
+    enum-told-3
+    entry-cell-requires
+    enum-told-4
+    wave-cell-requires
+    enum-told-5
+    noise-cell-requires
+    enum-told-6
+    sweep-cell-requires
+    returns
+    returns-2
+    returns-3
+    returns-4
+    returns-5
+    returns-6)

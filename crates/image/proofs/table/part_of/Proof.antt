@@ -1,3 +1,4 @@
+use Rattle.image.specs.declared.table.Block.the-variants.{Header}
 use Prim.Native.Nat.{_≤_, _-_}
 use mathlib.Core.Path.{_≡_, refl, sym, _∙_}
 use native.Mathlib.Omega.{arith}
@@ -30,7 +31,7 @@ array-copy-out-next : tie.Need-array-copy-out-next Inv-loop μ-loop
 array-copy-out-next c = search needs
 
 returns : tie.Need-returns Inv-loop μ-loop
-returns c = sym (laws.part-here _ (c .before .before .before .before .loop .p) parts (c .before .before .before .before .loop .k) (0, 0, 0, 0, 0) (search needs) (c .if1 .taken)) ∙ sym (c .before .before .before .before .loop .inv .1)
+returns c = sym (laws.part-here _ (c .before .before .before .before .loop .p) parts (c .before .before .before .before .loop .k) (0, 0, 0, Header, 0) (search needs) (c .if1 .taken)) ∙ sym (c .before .before .before .before .loop .inv .1)
 
 add-k : tie.Need-add-k Inv-loop μ-loop
 add-k c = search needs
@@ -39,7 +40,7 @@ loop-less : tie.Need-loop-less Inv-loop μ-loop
 loop-less c = search needs
 
 loop-again : tie.Need-loop-again Inv-loop μ-loop
-loop-again c = (search needs, c .before .before .before .before .loop .inv .1 ∙ laws.part-later _ (c .before .before .before .before .loop .p) parts (c .before .before .before .before .loop .k) (0, 0, 0, 0, 0) (search needs) (c .if1 .left))
+loop-again c = (search needs, c .before .before .before .before .loop .inv .1 ∙ laws.part-later _ (c .before .before .before .before .loop .p) parts (c .before .before .before .before .loop .k) (0, 0, 0, Header, 0) (search needs) (c .if1 .left))
 
 returns-2 : tie.Need-returns-2 Inv-loop μ-loop
 unfolding partIn
