@@ -1,10 +1,11 @@
 //! Prints a stream to read, with what each op does to the Rust's unit.
 
-use crate::digest::{digest, Frames};
-use crate::image::state_of;
+use crate::digest::{sum_of, Frames};
+use crate::image::{image, state_of};
+use crate::log::Refused;
 use crate::reader::Reader;
 use crate::state::{named, read, write, State};
-use crate::stream::{op, Op};
+use crate::stream::{answer, op, Op};
 use crate::vsu::core::VSU;
 
 /// One line for each op, with the fields that it changed; after op number `all`, every field and frame.
@@ -38,9 +39,15 @@ pub fn explain(bytes: &[u8], all: Option<u64>, print: &mut dyn FnMut(String)) ->
                 unit.step(n as usize, &mut frames);
                 format!("A {n}")
             }
-            Op::State { digest: wanted } => {
-                let found = digest(&unit);
-                format!("S {wanted}{}", if found == wanted { "" } else { " WRONG" })
+            Op::State { sum } => format!("S {sum}{}", wrong(sum_of(&image(&unit)) != sum)),
+            Op::Image(bytes) => format!("I{}", wrong(image(&unit) != *bytes)),
+            Op::Byte { at, value, answer: wanted } => {
+                let mut bytes = image(&unit);
+                bytes[at as usize] = value;
+                format!("B {at} <- {value}: {}{}", said(wanted), wrong(answer(&bytes) != wanted))
+            }
+            Op::Bytes { bytes, answer: wanted } => {
+                format!("D {} bytes: {}{}", bytes.len(), said(wanted), wrong(answer(&bytes) != wanted))
             }
             Op::End => {
                 print(format!("{number} E"));
@@ -55,6 +62,21 @@ pub fn explain(bytes: &[u8], all: Option<u64>, print: &mut dyn FnMut(String)) ->
         }
     }
     Ok(())
+}
+
+fn wrong(is: bool) -> &'static str {
+    if is {
+        " WRONG"
+    } else {
+        ""
+    }
+}
+
+fn said((number, carried): Refused) -> String {
+    match number {
+        0 => "accepted".to_string(),
+        _ => format!("refused {number} {carried}"),
+    }
 }
 
 fn changes(before: &State, after: &State) -> String {

@@ -1,5 +1,7 @@
 //! The state image of document 01, 420 bytes, written from its text.
 
+use crate::imagecheck::check;
+use crate::log::Refused;
 use crate::state::{in_range, power_on, read, write, State};
 use crate::vsu::core::VSU;
 
@@ -71,6 +73,22 @@ pub fn image_of(state: &State) -> [u8; LENGTH] {
 
 /// The state that an image holds; none when the image breaks a rule of document 01.
 pub fn state_of(b: &[u8; LENGTH]) -> Option<State> {
+    let state = taken_apart(b);
+    // header, zero bytes and unused flags: an image is right when it is the image of the state read from it
+    (in_range(&state) && image_of(&state) == *b).then_some(state)
+}
+
+/// The state that the bytes hold, or power-on and 01's refusal. What is accepted is left to `imagecheck` alone, so that a
+/// stream's answers test that reading.
+pub fn read_image(bytes: &[u8]) -> (State, Result<(), Refused>) {
+    match check(bytes) {
+        Ok(()) => (taken_apart(bytes.try_into().expect("an image of another length was accepted")), Ok(())),
+        Err(why) => (power_on(), Err(why)),
+    }
+}
+
+/// The numbers in an image, with no rule applied.
+fn taken_apart(b: &[u8; LENGTH]) -> State {
     let mut state = power_on();
     for (i, v) in state.waves.iter_mut().enumerate() {
         *v = b[WAVES + i] as u32;
@@ -109,8 +127,7 @@ pub fn state_of(b: &[u8; LENGTH]) -> Option<State> {
     s.current = get16(b, SWEEP + 12);
     s.next = get16(b, SWEEP + 14);
     state.output = get16(b, OUTPUT);
-    // header, zero bytes and unused flags: an image is right when it is the image of the state read from it
-    (in_range(&state) && image_of(&state) == *b).then_some(state)
+    state
 }
 
 fn byte(v: u32) -> u8 {

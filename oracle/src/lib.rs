@@ -11,6 +11,8 @@ pub mod digest;
 pub mod explain;
 pub mod fields;
 pub mod image;
+pub mod imagecases;
+pub mod imagecheck;
 pub mod log;
 pub mod logcases;
 pub mod logstream;

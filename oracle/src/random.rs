@@ -1,10 +1,14 @@
 //! Random states in range and random cases, the same ones for the same seed everywhere.
 
+use crate::imagecases;
 use crate::state::{power_on, Channel, State, Sweep, NOISE, SWEPT, TAPS};
 use crate::stream::{Maker, MOST};
 
 /// The most cycles of a random case unless the command line says otherwise.
 pub const MAX_CYCLES: u32 = 100_000;
+
+/// One case in so many is one of damaged images, which has some 4,900 checks where another has some 70.
+const IMAGE_CASES: u32 = 50;
 
 /// splitmix64.
 pub struct Numbers(u64);
@@ -207,15 +211,12 @@ fn about_to_sweep(state: &mut State, r: &mut Numbers) {
     s.step_counter = if s.slow == 1 { 153_608 } else { 19_200 } - r.below(3);
 }
 
-/// One random case: a start, then writes and runs, with the state looked at after each run and most writes.
+/// One random case: a start, then writes and runs, each with the image or its sum after it; or damaged images.
 pub fn case(maker: &mut Maker, r: &mut Numbers, max_cycles: u32) {
-    if r.one_in(5) {
-        maker.power();
-    } else {
-        let start = state(r);
-        maker.load(&start);
+    if r.one_in(IMAGE_CASES) {
+        return imagecases::case(maker, r);
     }
-    maker.state();
+    start(maker, r);
     // most cases are short, so that many are made for the time; some go to the bound
     let mut left = max_cycles >> r.below(8);
     for _ in 0..4 + r.below(12) {
@@ -225,13 +226,21 @@ pub fn case(maker: &mut Maker, r: &mut Numbers, max_cycles: u32) {
             for _ in 0..r.below(6) {
                 let (address, byte) = write(r);
                 maker.write(address, byte);
-                if !r.one_in(4) {
-                    maker.state();
-                }
             }
         }
         left -= run(maker, r, left);
     }
+}
+
+/// Power-on or a random state in range, and its image.
+pub fn start(maker: &mut Maker, r: &mut Numbers) {
+    if r.one_in(5) {
+        maker.power();
+    } else {
+        let start = state(r);
+        maker.load(&start);
+    }
+    maker.image();
 }
 
 /// A write, mostly to something that is mapped.
@@ -299,7 +308,6 @@ fn setup(maker: &mut Maker, r: &mut Numbers) {
         maker.write(base + 0x14, r.byte() | 0x40);
     }
     maker.write(base, r.byte() | 0x80);
-    maker.state();
 }
 
 /// One run or two, at most `left` cycles; answers how many.
@@ -331,7 +339,7 @@ fn go(maker: &mut Maker, r: &mut Numbers, n: u32) {
     } else {
         maker.run(n);
     }
-    maker.state();
+    maker.image();
 }
 
 /// The cycles until one of the counters comes to its end.

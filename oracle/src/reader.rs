@@ -19,6 +19,14 @@ impl<'a> Reader<'a> {
         Ok(self.take(N)?.try_into().unwrap())
     }
 
+    pub fn byte(&mut self) -> Result<u8, String> {
+        Ok(self.array::<1>()?[0])
+    }
+
+    pub fn half(&mut self) -> Result<u16, String> {
+        Ok(u16::from_le_bytes(self.array()?))
+    }
+
     pub fn number(&mut self) -> Result<u32, String> {
         Ok(u32::from_le_bytes(self.array()?))
     }

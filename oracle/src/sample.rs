@@ -1,12 +1,14 @@
 //! The stored sample: a small stream that goes to every rule of document 01 once or more. README.md has the table of
 //! what each part covers; `oracle sample` prints the size of each part.
 
+use crate::imagecases;
+use crate::random::{self, Numbers};
 use crate::state::{power_on, State, NOISE, SWEPT};
 use crate::stream::Maker;
 
 type Part = (&'static str, fn(&mut Maker));
 
-pub const PARTS: [Part; 17] = [
+pub const PARTS: [Part; 22] = [
     ("frames", frames),
     ("registers", registers),
     ("waves", waves),
@@ -24,6 +26,11 @@ pub const PARTS: [Part; 17] = [
     ("frequencies", frequencies),
     ("mixing", mixing),
     ("long runs", long_runs),
+    ("random states", random_states),
+    ("image bytes", imagecases::part_bytes),
+    ("image noise", imagecases::part_noise),
+    ("image pairs", imagecases::part_pairs),
+    ("image lengths", imagecases::part_lengths),
 ];
 
 pub fn sample() -> Maker {
@@ -49,11 +56,6 @@ fn run(m: &mut Maker, n: u32) {
 fn run_to_edge(m: &mut Maker, n: u32) {
     run(m, n - 1);
     run(m, 1);
-}
-
-fn write(m: &mut Maker, address: u32, byte: u8) {
-    m.write(address, byte);
-    m.state();
 }
 
 /// Sets a channel's frequency by its two registers.
@@ -124,11 +126,11 @@ fn about_to_sweep() -> State {
 
 fn frames(m: &mut Maker) {
     m.power();
-    m.state();
+    m.image();
     run_to_edge(m, 480);
     run(m, 480);
     m.load(&busy());
-    m.state();
+    m.image();
     run(m, 0);
     run_to_edge(m, 357);
     run(m, 9_600);
@@ -147,17 +149,14 @@ fn registers(m: &mut Maker) {
             if offset % 4 != 0 {
                 m.write(address, 0xFF);
                 m.write(address, any());
-                if offset % 4 == 3 {
-                    m.state();
-                }
                 continue;
             }
-            write(m, address, any());
-            write(m, address, 0xFF);
+            m.write(address, any());
+            m.write(address, 0xFF);
             if offset < 0x20 {
                 // each bit by itself
                 for bit in 0..8 {
-                    write(m, address, 1 << bit);
+                    m.write(address, 1 << bit);
                 }
             }
             // so that what a write sets back is not zero already at the next one
@@ -172,19 +171,13 @@ fn waves(m: &mut Maker) {
     for i in 0..160u32 {
         // the two low bits of an address do not count
         m.write(4 * i + i % 4, (i * 73 + 190) as u8);
-        if i % 16 == 15 {
-            m.state();
-        }
     }
     for i in 0..32u32 {
         m.write(0x280 + 4 * i + i % 4, (i * 29 + 120) as u8);
-        if i % 8 == 7 {
-            m.state();
-        }
     }
     for address in [0x000, 0x07F, 0x080, 0x0FF, 0x100, 0x17F, 0x180, 0x1FF, 0x200, 0x27F, 0x280, 0x2FF] {
         for byte in [0xFF, 0x40, 0x80] {
-            write(m, address, byte);
+            m.write(address, byte);
         }
     }
     // heard
@@ -193,7 +186,7 @@ fn waves(m: &mut Maker) {
         write_frequency(m, channel, 0x7F8);
         m.write(base(channel) + 0x10, 0xD0);
         m.write(base(channel) + 0x18, channel as u8);
-        write(m, base(channel), 0x80);
+        m.write(base(channel), 0x80);
         run(m, 4_800);
     }
 }
@@ -203,18 +196,17 @@ fn dropped(m: &mut Maker) {
     for playing in 0..6 {
         m.power();
         m.write(base(playing), 0x80);
-        m.state();
         for address in [0x004, 0x084, 0x104, 0x184, 0x204, 0x27C, 0x280, 0x2FF] {
-            write(m, address, 0x2D);
+            m.write(address, 0x2D);
         }
         m.write(base(playing), 0x00);
         for address in [0x004, 0x27C, 0x280, 0x2FF] {
-            write(m, address, 0x96);
+            m.write(address, 0x96);
         }
     }
     m.load(&busy());
     for address in [0x000, 0x0A4, 0x27F, 0x280, 0x2A4, 0x2FC] {
-        write(m, address, 0x15);
+        m.write(address, 0x15);
     }
 }
 
@@ -232,7 +224,7 @@ fn outside(m: &mut Maker) {
         for address in addresses {
             m.write(address, 0x9F);
             m.write(address, 0x01);
-            write(m, address, 0xFF);
+            m.write(address, 0xFF);
         }
         run(m, 500);
     }
@@ -242,14 +234,14 @@ fn stop(m: &mut Maker) {
     for byte in [0x01, 0xFF, 0x81] {
         m.load(&busy());
         for nothing in [0x00, 0xFE, 0x80] {
-            write(m, 0x580, nothing);
+            m.write(0x580, nothing);
         }
-        write(m, 0x580, byte);
+        m.write(0x580, byte);
         run(m, 1_000);
         // with nothing playing, waves are open again
-        write(m, 0x010, 0x2A);
-        write(m, 0x290, 0x2A);
-        write(m, base(2), 0x80);
+        m.write(0x010, 0x2A);
+        m.write(0x290, 0x2A);
+        m.write(base(2), 0x80);
         run(m, 1_000);
     }
 }
@@ -262,7 +254,6 @@ fn auto_stop(m: &mut Maker) {
         m.write(base(channel) + 0x10, 0xF0);
         m.write(base(channel), byte);
     }
-    m.state();
     run_to_edge(m, 76_805);
 
     // the tick counter goes on over a new start, and stands while auto-stop is off or nothing plays
@@ -354,7 +345,6 @@ fn sweeps(m: &mut Maker) {
     m.write(0x510, 0xF0);
     write_frequency(m, SWEPT, 2047);
     m.write(0x500, 0x80);
-    m.state();
     // disabled: the written frequency comes in after one period, and nothing more
     m.write(0x51C, 0x19);
     run_to_edge(m, 19_201);
@@ -441,7 +431,7 @@ fn modulation(m: &mut Maker) {
     run(m, 19_201);
     run(m, 19_201);
     // dropped while channel 5 plays
-    write(m, 0x28C, 0x40);
+    m.write(0x28C, 0x40);
 
     // past entry 31, with and without loop
     for loops in [0, 1] {
@@ -455,7 +445,7 @@ fn modulation(m: &mut Maker) {
         run_to_edge(m, 19_201);
         run(m, 19_201);
         // enabled again at 31
-        write(m, 0x514, 0x50);
+        m.write(0x514, 0x50);
         run(m, 19_201);
     }
     // stopped, disabled or with interval 0 the table stands
@@ -478,7 +468,7 @@ fn clocks(m: &mut Maker) {
     s.sweep.step_counter = 100_000;
     m.load(&s);
     run(m, 1);
-    write(m, 0x51C, 0x12);
+    m.write(0x51C, 0x12);
     run(m, 1);
     run(m, 1);
     // the slow clock's own end
@@ -496,9 +486,9 @@ fn clocks(m: &mut Maker) {
     // fast switched to slow at the edge, and back
     s.sweep.step_counter = 19_199;
     m.load(&s);
-    write(m, 0x51C, 0x92);
+    m.write(0x51C, 0x92);
     run(m, 5);
-    write(m, 0x53C, 0x12);
+    m.write(0x53C, 0x12);
     run(m, 1);
     // interval counters at, below and above the interval
     for (interval, counter) in [(7, 6), (7, 5), (2, 6), (0, 0), (0, 6), (1, 0)] {
@@ -514,7 +504,7 @@ fn clocks(m: &mut Maker) {
     m.load(&s);
     run(m, 1);
     run(m, 9_000);
-    write(m, 0x500, 0x80);
+    m.write(0x500, 0x80);
     run_to_edge(m, 19_201);
     run_to_edge(m, 19_201);
 }
@@ -527,7 +517,6 @@ fn taps(m: &mut Maker) {
     for tap in 0..8u8 {
         m.write(0x554, tap << 4);
         m.write(0x540, 0x80);
-        m.state();
         run(m, 8 * 40);
         run(m, 40);
         run(m, 55 * 40);
@@ -671,7 +660,6 @@ fn long_runs(m: &mut Maker) {
         m.write(at, 0x9F);
     }
     m.write(0x51C, 0x29);
-    m.state();
     run(m, 400_000);
     m.write(0x51C, 0xA1);
     m.write(0x440, 0xA7);
@@ -680,5 +668,22 @@ fn long_runs(m: &mut Maker) {
     m.write(0x51C, 0x16);
     m.write(0x450, 0x80);
     m.silent(100_000);
+    m.state();
     run(m, 500_000);
+    m.image();
+}
+
+fn random_states(m: &mut Maker) {
+    let mut r = Numbers::new(5);
+    for _ in 0..12 {
+        m.load(&random::state(&mut r));
+        m.image();
+        let (address, byte) = random::write(&mut r);
+        m.write(address, byte);
+        // the next cycle, and on to one past the next frame
+        for n in [1, 480] {
+            m.run(n);
+            m.image();
+        }
+    }
 }

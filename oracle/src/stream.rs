@@ -1,13 +1,18 @@
 //! The stream that a replaying program reads: made here with the Rust's answers in it, and read here.
 
-use crate::digest::{digest_state, FrameSum};
-use crate::image::{image_of, LENGTH};
+use crate::digest::{sum_of, FrameSum};
+use crate::image::{image_of, state_of, LENGTH};
+use crate::imagecheck::check;
+use crate::log::Refused;
 use crate::reader::Reader;
 use crate::state::{in_range, read, write, State};
 use crate::vsu::core::VSU;
 
 /// The most cycles of one op.
 pub const MOST: u32 = 1_900_000;
+
+/// The most bytes that are read as an image: what a replaying program has room for.
+pub const MOST_BYTES: usize = 1_024;
 
 /// One op of a stream. The bytes are in README.md.
 #[derive(Clone, Debug, PartialEq)]
@@ -17,7 +22,10 @@ pub enum Op {
     Write { address: u32, byte: u8 },
     Run { n: u32, made: FrameSum },
     Silent { n: u32 },
-    State { digest: u32 },
+    State { sum: u32 },
+    Image(Box<[u8; LENGTH]>),
+    Byte { at: u16, value: u8, answer: Refused },
+    Bytes { bytes: Vec<u8>, answer: Refused },
     End,
 }
 
@@ -33,6 +41,11 @@ impl std::fmt::Display for Totals {
     fn fmt(&self, f: &mut std::fmt::Formatter) -> std::fmt::Result {
         write!(f, "{} cases {} checks {} cycles", self.cases, self.checks, self.cycles)
     }
+}
+
+/// A reading's answer as a stream has it: zeros where the image is accepted.
+pub fn answer(bytes: &[u8]) -> Refused {
+    check(bytes).err().unwrap_or((0, 0))
 }
 
 /// Makes a stream: does each op on the Rust's unit and writes it down with the answer.
@@ -61,11 +74,13 @@ impl Maker {
         self.totals.cases += 1;
     }
 
+    /// A register write, and the sum of the image after it: no write goes without.
     pub fn write(&mut self, address: u32, byte: u8) {
         self.unit.set_u8(address as usize, byte);
         self.bytes.push(b'W');
         self.put(address);
         self.bytes.push(byte);
+        self.state();
     }
 
     pub fn run(&mut self, n: u32) {
@@ -88,13 +103,39 @@ impl Maker {
         self.totals.cycles += n as u64;
     }
 
-    /// Writes the digest down, and holds the Rust to document 01's range rules on the way.
+    /// The sum of the present state's image.
     pub fn state(&mut self) {
-        let state = self.present();
-        assert!(in_range(&state), "the Rust left the range: {state:?}");
+        let image = self.present_image();
         self.bytes.push(b'S');
-        self.put(digest_state(&state));
+        self.put(sum_of(&image));
         self.totals.checks += 1;
+    }
+
+    /// The present state's image, every byte of it.
+    pub fn image(&mut self) {
+        let image = self.present_image();
+        self.bytes.push(b'I');
+        self.bytes.extend_from_slice(&image);
+        self.totals.checks += 1;
+    }
+
+    /// The present state's image with one byte set, read as an image.
+    pub fn byte(&mut self, at: usize, value: u8) {
+        let mut image = self.present_image();
+        image[at] = value;
+        self.bytes.push(b'B');
+        self.put_half(at as u16);
+        self.bytes.push(value);
+        self.put_answer(&image);
+    }
+
+    /// Any bytes, read as an image.
+    pub fn bytes(&mut self, bytes: &[u8]) {
+        assert!(bytes.len() <= MOST_BYTES);
+        self.bytes.push(b'D');
+        self.put_half(bytes.len() as u16);
+        self.bytes.extend_from_slice(bytes);
+        self.put_answer(bytes);
     }
 
     pub fn end(&mut self) {
@@ -105,8 +146,29 @@ impl Maker {
         read(&self.unit)
     }
 
+    /// Holds the Rust to document 01's range rules on the way.
+    pub fn present_image(&self) -> [u8; LENGTH] {
+        let state = self.present();
+        assert!(in_range(&state), "the Rust left the range: {state:?}");
+        image_of(&state)
+    }
+
     fn put(&mut self, v: u32) {
         self.bytes.extend_from_slice(&v.to_le_bytes());
+    }
+
+    fn put_half(&mut self, v: u16) {
+        self.bytes.extend_from_slice(&v.to_le_bytes());
+    }
+
+    /// Both readings of 01 must take the same images.
+    fn put_answer(&mut self, bytes: &[u8]) {
+        let (number, carried) = answer(bytes);
+        let state = bytes.try_into().ok().and_then(state_of);
+        assert_eq!(state.is_some(), number == 0, "refused {number} {carried}: {bytes:?}");
+        self.bytes.push(number as u8);
+        self.put_half(carried as u16);
+        self.totals.checks += 1;
     }
 }
 
@@ -115,11 +177,30 @@ pub fn op(reader: &mut Reader) -> Result<Op, String> {
     Ok(match reader.array::<1>()?[0] {
         b'P' => Op::Power,
         b'L' => Op::Load(Box::new(reader.array::<LENGTH>()?)),
-        b'W' => Op::Write { address: reader.number()?, byte: reader.array::<1>()?[0] },
+        b'W' => Op::Write { address: reader.number()?, byte: reader.byte()? },
         b'R' => Op::Run { n: reader.number()?, made: FrameSum { frames: reader.number()?, sum: reader.number()? } },
         b'A' => Op::Silent { n: reader.number()? },
-        b'S' => Op::State { digest: reader.number()? },
+        b'S' => Op::State { sum: reader.number()? },
+        b'I' => Op::Image(Box::new(reader.array::<LENGTH>()?)),
+        b'B' => {
+            let (at, value) = (reader.half()?, reader.byte()?);
+            if at as usize >= LENGTH {
+                return Err("B is past the end".to_string());
+            }
+            Op::Byte { at, value, answer: read_answer(reader)? }
+        }
+        b'D' => {
+            let size = reader.half()? as usize;
+            if size > MOST_BYTES {
+                return Err("D is too long".to_string());
+            }
+            Op::Bytes { bytes: reader.take(size)?.to_vec(), answer: read_answer(reader)? }
+        }
         b'E' => Op::End,
-        other => return Err(format!("unknown op {other}")),
+        _ => return Err("is no op".to_string()),
     })
+}
+
+fn read_answer(reader: &mut Reader) -> Result<Refused, String> {
+    Ok((reader.byte()? as u32, reader.half()? as u32))
 }

@@ -1,7 +1,7 @@
 //! Document 01's rules written down once more, from its text alone, and held against the Rust.
 
-use oracle::digest::{digest_state, fold, FrameSum};
-use oracle::image::state_of;
+use oracle::digest::{fold, sum_of, FrameSum};
+use oracle::image::{image_of, state_of};
 use oracle::random::{case, Numbers};
 use oracle::reader::Reader;
 use oracle::sample::sample;
@@ -223,7 +223,10 @@ fn replay(bytes: &[u8]) {
             Op::Silent { n } => {
                 run(&mut s, n);
             }
-            Op::State { digest } => assert_eq!(digest_state(&s), digest, "op {number}: {s:?}"),
+            Op::State { sum } => assert_eq!(sum_of(&image_of(&s)), sum, "op {number}: {s:?}"),
+            Op::Image(image) => assert_eq!(image_of(&s), *image, "op {number}: {s:?}"),
+            // tests/images.rs holds these
+            Op::Byte { .. } | Op::Bytes { .. } => {}
             Op::End => return,
         }
     }

@@ -1,12 +1,14 @@
 //! Document 01's figures and counts, run on the Rust; and the oracle's own parts.
 
 use oracle::constants::*;
-use oracle::digest::{digest, digest_state, Frames};
+use oracle::digest::{sum_of, Frames};
 use oracle::image::{from_image, image, image_of, state_of, LENGTH};
-use oracle::random::{state, Numbers};
+use oracle::random::{case, state, Numbers};
+use oracle::reader::Reader;
 use oracle::replay::replay;
 use oracle::sample::sample;
 use oracle::state::{in_range, power_on, read, write, State, NOISE, SWEPT};
+use oracle::stream::{op, Maker, Op};
 use oracle::vsu::channel::Channel;
 use oracle::VSU;
 
@@ -186,7 +188,6 @@ fn image_round_trip() {
         let unit = from_image(&bytes);
         assert_eq!(read(&unit), s);
         assert_eq!(image(&unit), bytes);
-        assert_eq!(digest(&unit), digest_state(&s));
     }
 }
 
@@ -206,15 +207,15 @@ fn a_wrong_image_is_refused() {
     }
 }
 
-/// Any one bit changed in an image of a state in range changes the digest. The noise output and the shift's lowest
-/// bit change together.
+/// Any one bit changed in an image of a state in range is another state, and changes the image's sum. The noise output
+/// and the shift's lowest bit change together.
 #[test]
-fn digest_sees_every_field() {
+fn sum_sees_every_field() {
     let mut numbers = Numbers::new(3);
     let mut seen = [false; LENGTH];
     for _ in 0..50 {
-        let bytes = image_of(&state(&mut numbers));
-        let old = digest_state(&state_of(&bytes).unwrap());
+        let start = state(&mut numbers);
+        let bytes = image_of(&start);
         for at in 16..LENGTH {
             for bit in 0..8 {
                 let mut other = bytes;
@@ -223,7 +224,8 @@ fn digest_sees_every_field() {
                     other[396] ^= 1 << bit;
                 }
                 if let Some(s) = state_of(&other) {
-                    assert_ne!(digest_state(&s), old, "offset {at} bit {bit}");
+                    assert_ne!(s, start, "offset {at} bit {bit}");
+                    assert_ne!(sum_of(&other), sum_of(&bytes), "offset {at} bit {bit}");
                     seen[at] = true;
                 }
             }
@@ -244,21 +246,91 @@ fn digest_sees_every_field() {
     }
 }
 
+/// A stream with one op of each kind that holds an answer: with any number of an answer changed it must not pass.
 #[test]
 fn replay_finds_a_wrong_answer() {
-    let bytes = sample().bytes;
-    let totals = replay(&bytes).unwrap();
-    assert_eq!(totals, sample().totals);
-    assert!(replay(&bytes[..bytes.len() - 1]).is_err());
-    // the last op before E is a digest
-    let mut wrong = bytes.clone();
-    wrong[bytes.len() - 2] ^= 1;
-    assert!(replay(&wrong).is_err());
+    let mut maker = Maker::new();
+    let mut places = Vec::new();
+    maker.load(&state(&mut Numbers::new(4)));
+    let mut answers = |maker: &Maker, back: &[usize]| places.extend(back.iter().map(|b| maker.bytes.len() - b));
+    maker.image();
+    answers(&maker, &[420, 404, 42, 1]);
+    maker.write(0x404, 0x5A);
+    answers(&maker, &[4, 1]);
+    maker.run(2_000);
+    answers(&maker, &[8, 4, 1]);
+    maker.byte(16, 64);
+    answers(&maker, &[3, 2, 1]);
+    maker.byte(16, 63);
+    answers(&maker, &[3, 2, 1]);
+    maker.bytes(&[1; 3]);
+    answers(&maker, &[3, 2, 1]);
+    maker.end();
+    assert_eq!(replay(&maker.bytes), Ok(maker.totals));
+    for at in places {
+        let mut wrong = maker.bytes.clone();
+        wrong[at] ^= 1;
+        assert!(replay(&wrong).is_err(), "byte {at}");
+    }
+    for end in 0..maker.bytes.len() {
+        assert!(replay(&maker.bytes[..end]).is_err(), "cut at {end}");
+    }
+}
+
+#[test]
+fn replay_names_what_differs() {
+    let said = |bytes: &[u8]| replay(bytes).unwrap_err();
+    let mut wrong = image_of(&power_on());
+    wrong[377] = 10;
+    assert_eq!(said(&[b"PI", &wrong[..], b"E"].concat()), "case 1 op 1 I image offset 377 expected 10 got 14");
+    wrong[377] = 7;
+    assert_eq!(said(&[b"L", &wrong[..]].concat()), "case 0 op 0 L refused expected 0 got 11");
+    assert_eq!(said(b"PPB\x79\x01\x07\x0B\x78\x01E"), "case 2 op 2 B carried expected 376 got 377");
+    assert_eq!(said(b"PB\x79\x01\x07\x00\x00\x00E"), "case 1 op 1 B number expected 0 got 11");
+    assert_eq!(said(b"PB\xA4\x01\x00\x00\x00\x00E"), "case 1 op 1 B is past the end");
+    assert_eq!(said(b"PD\x01\x04E"), "case 1 op 1 D is too long");
+    assert_eq!(said(b"PS\x00\x00\x00"), "case 1 op 1 the stream ends before its E");
+    assert_eq!(said(b"PX"), "case 1 op 1 is no op");
+}
+
+/// Which op may come after which: the sum after each write, the sum or the image after each run, and in random cases the
+/// image at the start and after each run.
+fn looked_at(bytes: &[u8], random: bool) {
+    let mut reader = Reader::new(bytes);
+    let mut before = Op::End;
+    for number in 0.. {
+        let next = op(&mut reader).unwrap();
+        let (sum, image) = (matches!(next, Op::State { .. }), matches!(next, Op::Image(_)));
+        let fine = match before {
+            Op::Write { .. } => sum,
+            Op::Run { .. } | Op::Silent { .. } if !random => sum || image,
+            Op::Run { .. } | Op::Silent { .. } => image,
+            Op::Power | Op::Load(_) => image || !random,
+            _ => true,
+        };
+        assert!(fine, "op {number}: {next:?} after {before:?}");
+        if next == Op::End {
+            return;
+        }
+        before = next;
+    }
+}
+
+#[test]
+fn every_write_and_run_is_looked_at() {
+    looked_at(&sample().bytes, false);
+    for seed in 0..3 {
+        let (mut maker, mut numbers) = (Maker::new(), Numbers::new(seed));
+        (0..200).for_each(|_| case(&mut maker, &mut numbers, 5_000));
+        maker.end();
+        looked_at(&maker.bytes, true);
+    }
 }
 
 #[test]
 fn sample_is_small() {
     let made = sample();
-    assert!(made.bytes.len() < 60_000);
+    assert_eq!(replay(&made.bytes), Ok(made.totals));
+    assert!(made.bytes.len() < 130_000);
     assert!(made.totals.cycles < 6_000_000);
 }

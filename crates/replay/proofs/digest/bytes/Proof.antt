@@ -1,15 +1,15 @@
--- Goes over every sample.
+-- Goes over every byte.
 use borrow.Author.Needs.{needs}
 use lib.ListN.{length}
 use Prim.Native.Nat.{_-_}
-use Rattle.replay.proofs.digest.samples.Statement.{statement}
-use Rattle.replay.proofs.digest.samples.Tie as tie
+use Rattle.replay.proofs.digest.bytes.Statement.{statement}
+use Rattle.replay.proofs.digest.bytes.Tie as tie
 
 abbrev Inv-loop : tie.InvT-loop
-Inv-loop start waves sum₀ i₀ sum i = Unit {0}
+Inv-loop b sum₀ i₀ sum i = Unit {0}
 
 abbrev μ-loop : tie.MeasureT-loop
-μ-loop start waves sum₀ i₀ sum i = length waves - i
+μ-loop b sum₀ i₀ sum i = length b - i
 
 loop-holds : tie.Need-loop-holds Inv-loop μ-loop
 loop-holds c = search needs
@@ -32,8 +32,8 @@ loop-again c = search needs
 returns : tie.Need-returns Inv-loop μ-loop
 returns c = search needs
 
-pub samples-spec : {M : Type 1} → statement M
-samples-spec =
+pub bytes-spec : {M : Type 1} → statement M
+bytes-spec =
     tie.close
     (tie.spec
     Inv-loop
