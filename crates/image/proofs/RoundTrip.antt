@@ -1,6 +1,6 @@
 -- The image both ways: a state in range written as an image reads back equal; an accepted image is a state in range and writes back
 -- to the same bytes; a refused one's number and offset are the lowest fault's.
-use Prim.Native.Nat.{ℕ, zero, suc, _+_, _-_, _<_, _≤_}
+use Prim.Native.Nat.{ℕ, zero, suc, _+_, _-_, _<_, _≤_, suc-le-suc}
 use mathlib.Core.Path.{_≡_, refl, sym, ap, subst, _∙_}
 use mathlib.Core.Bool.{Bool, true, false, cond}
 use mathlib.Core.List.{List, [], _∷_}
@@ -15,7 +15,7 @@ use Rattle.refusal.specs.declared.Answer.{Answer}
 use Rattle.refusal.specs.declared.Answer.the-variants.{Accepted, Refused}
 use Rattle.refusal.specs.declared.Refusal.{Refusal}
 use Rattle.refusal.specs.declared.Refusal.the-variants.{ImageField, ImageHeader, ImageSize}
-use Rattle.vsu.proofs.RangeLaws.{range-facts}
+use Rattle.vsu.proofs.RangeLaws.{range-facts, small-at}
 use Rattle.vsu.specs.Core.{allAtMost, inRange}
 use Rattle.vsu.specs.declared.core.Vsu.{Vsu}
 use Rattle.image.specs.Fields.{fieldsOf, stateOf}
@@ -26,12 +26,6 @@ use Rattle.image.specs.declared.table.Row.{Row}
 use Rattle.image.proofs.AcceptedLaws.{fields-again, range-of-values}
 use Rattle.image.proofs.ImageLaws.{First, all-sound, atFault, bytes-of-values, image-length, none-faulty, rows-rise, scan-first, table-laid, value-at, values-length, values-of-bytes}
 use Rattle.image.proofs.WrittenLaws.{fields-length, fits, none-at-fault, state-back}
-
-byte-at : (l : List ℕ) → allAtMost 255 l ≡ true → (i : ℕ) → i < length l → getD l i 0 < 256
-unfolding allAtMost
-byte-at [] p i g = absurd (omega arith)
-byte-at (x ∷ l) p zero g = each (leb x 255) (allAtMost 255 l ∷ []) p (λ k. omega (arith, leb-true x 255 (k .0)))
-byte-at (x ∷ l) p (suc i) g = each (leb x 255) (allAtMost 255 l ∷ []) p (λ k. byte-at l (k .1 .0) i (omega arith))
 
 -- "420 bytes"
 ends : rowAt 325 .offset ≡ 420
@@ -82,7 +76,7 @@ module _ (b : List ℕ) (a : readAnswer b ≡ Accepted) where
   writes-back small =
       let l : rowAt 325 .offset ≤ length b = omega (arith, ends, whole .0) in
       ap (λ (f : List ℕ). bytesOf rowAt f 325) (fields-again (fieldsIn b) (values-length rowAt b 325) sound)
-      ∙ bytes-of-values table-laid b (byte-at b small) l 325 (omega arith)
+      ∙ bytes-of-values table-laid b (λ i _. suc-le-suc (small-at 255 b small i)) l 325 (omega arith)
       ∙ take-all (rowAt 325 .offset) b (omega (arith, ends, whole .0))
 
 -- a refused image of 420 bytes: the offset told is that of a field at fault, and no field below it is

@@ -115,3 +115,10 @@ module _ (l : List ℕ) (at v : ℕ) {m : List ℕ} where
   put-four r s =
       let a : v / 65536 ≡ v / 256 / 256 = omega arith in
       rw (s, r, a) (sets-append l at (bytes 2 v) (bytes 2 (v / 256 / 256)) refl)
+
+-- a number of bytes is below its width
+pub front-below : (w : ℕ) (l : List ℕ) → ((i : ℕ) → getD l i 0 < 256) → front w l < 256 ^ w
+unfolding front
+front-below zero l k = omega arith
+front-below (suc w) [] k = omega (arith, pow-suc 256 w, front-below w [] (λ i. omega arith))
+front-below (suc w) (x ∷ l) k = rw (pow-suc 256 w) (omega (arith, k 0, front-below w l (λ i. k (suc i))))

@@ -281,11 +281,11 @@ power-on-in-range = refl
 
 -- the sums of a state in range
 
-small-at : (l : List ℕ) → allAtMost 63 l ≡ true → (i : ℕ) → getD l i 0 ≤ 63
+pub small-at : (most : ℕ) (l : List ℕ) → allAtMost most l ≡ true → (i : ℕ) → getD l i 0 ≤ most
 unfolding allAtMost
-small-at [] h i = omega arith
-small-at (x ∷ l) h zero = each (leb x 63) (allAtMost 63 l ∷ []) h (λ k. leb-true x 63 (k .0))
-small-at (x ∷ l) h (suc i) = each (leb x 63) (allAtMost 63 l ∷ []) h (λ k. small-at l (k .1 .0) i)
+small-at most [] h i = omega arith
+small-at most (x ∷ l) h zero = each (leb x most) (allAtMost most l ∷ []) h (λ k. leb-true x most (k .0))
+small-at most (x ∷ l) h (suc i) = each (leb x most) (allAtMost most l ∷ []) h (λ k. small-at most l (k .1 .0) i)
 
 total-le : (f : Voice → ℕ) (m : ℕ) (vs : List Voice) → ((i : ℕ) → i < length vs → f (voiceAt i vs) ≤ m) → total (map f vs) ≤ length vs * m
 total-le f m [] h = omega arith
@@ -298,7 +298,7 @@ module _ (u : Vsu) (k : InRange u) where
   pub quiet : SmallSums (sumsOf (u .waves) (u .voices))
   unfolding sumsOf
   quiet =
-      let s : (i : ℕ) → getD (u .waves) i 0 ≤ 63 = small-at (u .waves) (k .small) in
+      let s : (i : ℕ) → getD (u .waves) i 0 ≤ 63 = small-at 63 (u .waves) (k .small) in
       record {
         left =
             sum-le (heardLeft (u .waves))

@@ -261,8 +261,8 @@ fn write_stop(u: Vsu, value: u8) -> Vsu
     t
 }
 
-// A register write to any state.
-fn set_u8(u: Vsu, address: u32, value: u8) -> Vsu
+// A register write to any state: for callers that keep a state in range, which a write leaves in range.
+pub fn set_u8(u: Vsu, address: u32, value: u8) -> Vsu
     ensures { λ r. ⌜ r ≡ write address value u ⌝ }
 {
     let r = decode(address);
