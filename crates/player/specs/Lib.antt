@@ -1,0 +1,4 @@
+pub mod Marks
+pub mod Walk
+pub mod Player
+pub mod Calls

@@ -1,0 +1,3 @@
+pub mod marks;
+pub mod player;
+pub mod walk;
