@@ -18,7 +18,7 @@ use Rattle.vsu.specs.declared.core.Vsu.{Vsu}
 use Rattle.image.specs.Fields.{Narrow, fieldsOf, stateOf}
 use Rattle.image.specs.Image.{bytesOf, fieldsIn, imageOf, loadedBy, readAnswer, readCarried, readNumber, readOf, readTold, refusalAt, scan, scanTold, writeAnswer, writeNumber, writeOut}
 use Rattle.image.specs.Table.{faulty, rowAt}
-use Rattle.image.specs.declared.image.Loaded.{Loaded}
+use Rattle.image.specs.declared.Loaded.{Loaded}
 use Rattle.image.specs.declared.table.Row.{Row}
 use Rattle.image.proofs.AcceptedLaws.{narrow}
 use Rattle.image.proofs.ImageLaws.{all-sound, values-length}

@@ -21,7 +21,7 @@ use Rattle.vsu.specs.declared.core.Vsu.{Vsu}
 use Rattle.image.specs.Fields.{fieldsOf, stateOf}
 use Rattle.image.specs.Image.{bytesOf, fieldsIn, imageOf, loadedBy, readAnswer, readCarried, readNumber, readOf, readTold, refusalAt, scan, scanTold, valuesOf}
 use Rattle.image.specs.Table.{cellAt, faulty, partIn, partOf, rowAt, rowIn}
-use Rattle.image.specs.declared.image.Loaded.{Loaded}
+use Rattle.image.specs.declared.Loaded.{Loaded}
 use Rattle.image.specs.declared.table.Row.{Row}
 use Rattle.image.proofs.AcceptedLaws.{fields-again, range-of-values}
 use Rattle.image.proofs.ImageLaws.{First, all-sound, atFault, bytes-of-values, image-length, none-faulty, rows-rise, scan-first, table-laid, value-at, values-length, values-of-bytes}

@@ -13,7 +13,7 @@ use Rattle.vsu.specs.Core.{inRange, powerOn}
 use Rattle.vsu.specs.declared.core.Vsu.{Vsu}
 use Rattle.image.specs.Fields.{fieldsOf, stateOf}
 use Rattle.image.specs.Table.{faulty, rowAt}
-use Rattle.image.specs.declared.image.Loaded.{Loaded}
+use Rattle.image.specs.declared.Loaded.{Loaded}
 use Rattle.image.specs.declared.table.Row.{Row}
 
 -- The definitions of this part take any table of rows, so that a later edition is another table.

@@ -1,3 +1,124 @@
-pub mod fields;
-pub mod image;
-pub mod table;
+// The state image, 420 bytes: the fields' values, by the table.
+mod fields;
+mod table;
+
+use crate::table::FIELDS;
+use refusal::Answer;
+use refusal::Refusal;
+use vsu::core;
+use vsu::core::Vsu;
+ghost use mathlib.Core.Path.{_≡_};
+ghost use mathlib.Core.List.{[]};
+ghost use lib.ListN.{length};
+ghost use lib.Seq.{sets};
+ghost use Rattle.refusal.specs.Refusal.{answerNumber, answerCarried};
+ghost use Rattle.image.specs.Table.{rowAt};
+ghost use Rattle.image.specs.Image.{bytesOf, fieldsIn, refusalAt, scan, writeAnswer, writeNumber, writeOut, loadedBy, readOf, readNumber, readCarried};
+
+// The state that an image holds, and how the reading ended.
+pub struct Loaded {
+    pub state: Vsu,
+    pub answer: Answer,
+}
+
+fn put_fields(out: &mut [u8], f: &[u32; 325])
+    ensures { λ _. ⌜ now (out .exit) ≡ sets (now (out .entry)) 0 (bytesOf rowAt (now (f .entry)) 325) ⌝ }
+{
+    let mut i = 0;
+    while i < FIELDS {
+        let r = table::row_at(i as u16);
+        let width = r.width;
+        little::put(out, r.offset as usize, width, f[i]);
+        i += 1;
+    }
+}
+
+fn take_fields(b: &[u8]) -> [u32; 325]
+    ensures { λ r. ⌜ r ≡ fieldsIn (now (b .entry)) ⌝ }
+{
+    let mut f = [0; 325];
+    let mut i = 0;
+    while i < FIELDS {
+        let r = table::row_at(i as u16);
+        let width = r.width;
+        f[i] = little::number_at(b, r.offset as usize, width);
+        i += 1;
+    }
+    f
+}
+
+fn refusal_at(offset: u32) -> Refusal
+    ensures { λ r. ⌜ r ≡ refusalAt rowAt offset ⌝ }
+{
+    if offset < 16 {
+        return Refusal::ImageHeader;
+    }
+    Refusal::ImageField(offset)
+}
+
+// The lowest field at fault.
+fn check_fields(f: &[u32; 325]) -> Answer
+    ensures { λ r. ⌜ r ≡ scan rowAt (now (f .entry)) 325 0 ⌝ }
+{
+    let mut i = 0;
+    while i < FIELDS {
+        let r = table::row_at(i as u16);
+        if table::at_fault(r, f[311], f[i]) {
+            return Answer::Refused(refusal_at(r.offset));
+        }
+        i += 1;
+    }
+    Answer::Accepted
+}
+
+// 1, then 2; else the image in the first 420 bytes.
+pub fn write_image(u: Vsu, out: &mut [u8]) -> Answer
+    ensures { λ r. ⌜ r ≡ writeAnswer u (length (now (out .entry))) ⌝ }
+    ensures { λ r. ⌜ answerNumber r ≡ writeNumber u (length (now (out .entry))) ⌝ }
+    ensures { λ r. ⌜ answerCarried r ≡ 0 ⌝ }
+    ensures { λ _. ⌜ now (out .exit) ≡ writeOut u (now (out .entry)) ⌝ }
+{
+    if !core::in_range(u) {
+        return Answer::Refused(Refusal::State);
+    }
+    if out.len() < 420 {
+        return Answer::Refused(Refusal::Room);
+    }
+    let f = fields::fields_of(u);
+    put_fields(out, &f);
+    Answer::Accepted
+}
+
+// "a refused image [hands back] the power-on state"
+fn refused(why: Refusal) -> Loaded
+    ensures { λ r. ⌜ r ≡ loadedBy (Answer.Refused why) [] ⌝ }
+{
+    let u = core::new();
+    Loaded {
+        state: u,
+        answer: Answer::Refused(why),
+    }
+}
+
+// 9, then 10, then 11; else the state.
+pub fn read_image(b: &[u8]) -> Loaded
+    ensures { λ r. ⌜ r ≡ readOf (now (b .entry)) ⌝ }
+    ensures { λ r. ⌜ answerNumber (r .answer) ≡ readNumber (now (b .entry)) ⌝ }
+    ensures { λ r. ⌜ answerCarried (r .answer) ≡ readCarried (now (b .entry)) ⌝ }
+{
+    if b.len() != 420 {
+        return refused(Refusal::ImageSize);
+    }
+    let f = take_fields(b);
+    let a = check_fields(&f);
+    match a {
+        Answer::Refused(why) => refused(why),
+        Answer::Accepted => {
+            let u = fields::state_of(&f);
+            Loaded {
+                state: u,
+                answer: Answer::Accepted,
+            }
+        }
+    }
+}

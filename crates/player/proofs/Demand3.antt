@@ -34,9 +34,9 @@ use Rattle.player.specs.Calls.Call.{play, seek, set as mark, setFree, cl
 use Rattle.player.specs.Marks.{isSet, lowestFree, withMark, withoutMark}
 use Rattle.player.specs.Player.{clearOf, fresh, goToBy, goToOf, marked, movedOn, openBy, openOf, place, playBy, playOf, playOut, playOutBy, playedOn, playedOut, recalled, refusedPlay, refusedTurn, restarted, seekBy, seekOf, setBy, setFreeBy, setFreeMemory, setFreeOf, setMemory, setMemoryBy, setOf, slotApplied, slotCycle, slotImage, slotOf, soughtFrom, standingBy, standingOf, turned, wentBy, withMarks}
 use Rattle.player.specs.Walk.{framesIn, framesOn, stateAt}
-use Rattle.player.specs.declared.player.Played.{Played}
-use Rattle.player.specs.declared.player.Player.{Player}
-use Rattle.player.specs.declared.player.Turn.{Turn}
+use Rattle.player.specs.declared.Played.{Played}
+use Rattle.player.specs.declared.Player.{Player}
+use Rattle.player.specs.declared.Turn.{Turn}
 use Rattle.player.proofs.MarksLaws.{lowest-unset, set-with, set-without, unset-at-first}
 use Rattle.player.proofs.WalkLaws.{bytes-of, due-most, due-none, frames-on-length, frames-span, state-add, state-keeps, state-run}
 

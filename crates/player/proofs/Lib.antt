@@ -2,3 +2,4 @@ pub mod WalkLaws
 pub mod MarksLaws
 pub mod PlayerLaws
 pub mod Demand3
+pub mod ToldLaws

@@ -19,7 +19,7 @@ use Rattle.log.specs.declared.Checked.the-variants as checked
 use Rattle.log.specs.declared.Write.{Write}
 use Rattle.image.proofs.RoundTrip.{image-420}
 use Rattle.image.specs.Image.{imageOf, readOf, writeOut}
-use Rattle.image.specs.declared.image.Loaded.{Loaded}
+use Rattle.image.specs.declared.Loaded.{Loaded}
 use Rattle.refusal.specs.declared.Answer.the-variants.{Accepted, Refused}
 use Rattle.refusal.specs.declared.Refusal.{Refusal}
 use Rattle.refusal.specs.declared.Refusal.the-variants.{State, Room, BeyondEnd, Place, MarkNumber, MarkUnset, MarksFull}
@@ -29,9 +29,9 @@ use Rattle.vsu.specs.declared.core.Vsu.{Vsu}
 use Rattle.player.specs.Marks.{isSet, lowestFree, withoutMark}
 use Rattle.player.specs.Walk.{Walkable, framesOn, runOn}
 use Rattle.player.specs.Player.{clearOf, dueIn, fresh, goToBy, goToOf, marked, movedOn, openBy, openOf, place, placed, playBy, playOf, playOut, playOutBy, playedOn, playedOut, recalled, refusedPlay, refusedTurn, seekBy, seekOf, setBy, setFreeBy, setFreeMemory, setFreeOf, setMemory, setMemoryBy, setOf, slotOf, standingBy, standingOf, turned, wentBy, withMarks}
-use Rattle.player.specs.declared.player.Played.{Played}
-use Rattle.player.specs.declared.player.Player.{Player}
-use Rattle.player.specs.declared.player.Turn.{Turn}
+use Rattle.player.specs.declared.Played.{Played}
+use Rattle.player.specs.declared.Player.{Player}
+use Rattle.player.specs.declared.Turn.{Turn}
 
 -- opening
 

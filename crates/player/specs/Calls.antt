@@ -16,7 +16,7 @@ use Rattle.vsu.specs.Core.{sides}
 use Rattle.player.specs.Marks.{lowestFree}
 use Rattle.player.specs.Player.{clearOf, fresh, goToOf, playOf, playOut, seekOf, setFreeMemory, setFreeOf, setMemory, setOf}
 use Rattle.player.specs.Walk.{framesIn, stateAt}
-use Rattle.player.specs.declared.player.Player.{Player}
+use Rattle.player.specs.declared.Player.{Player}
 
 -- a call, with what it is given besides the record, the log and the mark memory: a play is lent a buffer
 pub data Call : Type 0 where

@@ -8,12 +8,12 @@ use lib.IntN.{ℤ}
 use lib.ListN.{drop, length, take}
 use lib.Seq.{sets}
 use Rattle.little.specs.Little.{bytes, number}
-use Rattle.log.specs.Log.{checkOf, dueBefore, first, writesFrom, writesOf}
+use Rattle.log.specs.Log.{checkCarried, checkNumber, checkOf, countOf, cyclesOf, dueBefore, first, writesFrom, writesOf}
 use Rattle.log.specs.declared.Checked.{Checked}
 use Rattle.log.specs.declared.Checked.the-variants as checked
 use Rattle.log.specs.declared.Write.{Write}
-use Rattle.image.specs.Image.{imageOf, readOf}
-use Rattle.image.specs.declared.image.Loaded.{Loaded}
+use Rattle.image.specs.Image.{imageOf, readCarried, readNumber, readOf}
+use Rattle.image.specs.declared.Loaded.{Loaded}
 use Rattle.refusal.specs.declared.Answer.{Answer}
 use Rattle.refusal.specs.declared.Answer.the-variants.{Accepted, Refused}
 use Rattle.refusal.specs.declared.Refusal.{Refusal}
@@ -22,9 +22,9 @@ use Rattle.vsu.specs.Core.{fitsIn, framesDue, inRange, powerOn, sides}
 use Rattle.vsu.specs.declared.core.Vsu.{Vsu}
 use Rattle.player.specs.Marks.{isSet, lowestFree, withMark, withoutMark}
 use Rattle.player.specs.Walk.{framesOn, runOn}
-use Rattle.player.specs.declared.player.Played.{Played}
-use Rattle.player.specs.declared.player.Player.{Player}
-use Rattle.player.specs.declared.player.Turn.{Turn}
+use Rattle.player.specs.declared.Played.{Played}
+use Rattle.player.specs.declared.Player.{Player}
+use Rattle.player.specs.declared.Turn.{Turn}
 
 -- "Opening gives power-on, cycle 0, no marks."
 abbrev pub fresh : Player
@@ -214,3 +214,99 @@ goToBy (checked.Refused why) p slot b memory = refusedTurn p why
 
 abbrev pub goToOf : Player → ℕ → List ℕ → List ℕ → Turn
 goToOf p slot b memory = goToBy (standingOf p b) p slot b memory
+
+-- 01's number of each call's answer and the value that it carries: what is told of the first refusal in 01's order, 0 where the
+-- call is accepted. An opening's are the log's own.
+
+abbrev pub itsNumber : ℕ → ℕ → ℕ
+itsNumber number carried = number
+
+abbrev pub itsCarried : ℕ → ℕ → ℕ
+itsCarried number carried = carried
+
+-- "log 3 to 8, record 1 then 13", then the rest
+unfoldable pub standingTold : (ℕ → ℕ → ℕ) → Player → List ℕ → ℕ → ℕ
+standingTold told p b rest =
+    cond (eqb (checkNumber first b) 0)
+    (cond (inRange (p .unit))
+    (cond (placed b (countOf b) (cyclesOf first b) (p .cycle) (p .applied)) rest (told 13 0))
+    (told 1 0))
+    (told (checkNumber first b) (checkCarried first b))
+
+-- "then 12, then frame room 2"
+
+abbrev pub playTold : (ℕ → ℕ → ℕ) → Player → ℕ → List ℕ → ℕ → ℕ
+playTold told p n b room =
+    standingTold told p b
+    (cond (leb (p .cycle + n) (cyclesOf first b)) (cond (fitsIn n (p .unit) room) 0 (told 2 0)) (told 12 0))
+
+abbrev pub playNumber : Player → ℕ → List ℕ → ℕ → ℕ
+playNumber p n b room = playTold itsNumber p n b room
+
+abbrev pub playCarried : Player → ℕ → List ℕ → ℕ → ℕ
+playCarried p n b room = playTold itsCarried p n b room
+
+-- "12: play or seek beyond L"
+
+abbrev pub seekTold : (ℕ → ℕ → ℕ) → Player → ℕ → List ℕ → ℕ
+seekTold told p target b = standingTold told p b (cond (leb target (cyclesOf first b)) 0 (told 12 0))
+
+abbrev pub seekNumber : Player → ℕ → List ℕ → ℕ
+seekNumber p target b = seekTold itsNumber p target b
+
+abbrev pub seekCarried : Player → ℕ → List ℕ → ℕ
+seekCarried p target b = seekTold itsCarried p target b
+
+-- "mark memory 2, then 14, 15, 16": "mark number above 15; mark not set (go to, clear); all set (lowest free)"
+
+abbrev pub setTold : (ℕ → ℕ → ℕ) → Player → ℕ → List ℕ → ℕ → ℕ
+setTold told p slot b size =
+    standingTold told p b (cond (leb 6848 size) (cond (leb slot 15) 0 (told 14 0)) (told 2 0))
+
+abbrev pub setNumber : Player → ℕ → List ℕ → ℕ → ℕ
+setNumber p slot b size = setTold itsNumber p slot b size
+
+abbrev pub setCarried : Player → ℕ → List ℕ → ℕ → ℕ
+setCarried p slot b size = setTold itsCarried p slot b size
+
+abbrev pub setFreeTold : (ℕ → ℕ → ℕ) → Player → List ℕ → ℕ → ℕ
+setFreeTold told p b size =
+    standingTold told p b (cond (leb 6848 size) (cond (leb (lowestFree (p .marks)) 15) 0 (told 16 0)) (told 2 0))
+
+abbrev pub setFreeNumber : Player → List ℕ → ℕ → ℕ
+setFreeNumber p b size = setFreeTold itsNumber p b size
+
+abbrev pub setFreeCarried : Player → List ℕ → ℕ → ℕ
+setFreeCarried p b size = setFreeTold itsCarried p b size
+
+-- clear is lent only the record
+unfoldable pub clearTold : (ℕ → ℕ → ℕ) → Player → ℕ → ℕ
+clearTold told p slot =
+    cond (inRange (p .unit)) (cond (leb slot 15) (cond (isSet slot (p .marks)) 0 (told 15 0)) (told 14 0)) (told 1 0)
+
+abbrev pub clearNumber : Player → ℕ → ℕ
+clearNumber p slot = clearTold itsNumber p slot
+
+abbrev pub clearCarried : Player → ℕ → ℕ
+clearCarried p slot = clearTold itsCarried p slot
+
+-- "then the slot's 10, 11 (offset in its image), 13"
+
+unfoldable pub slotTold : (ℕ → ℕ → ℕ) → ℕ → List ℕ → List ℕ → ℕ
+slotTold told slot b memory =
+    cond (eqb (readNumber (slotImage memory slot)) 0)
+    (cond (placed b (countOf b) (cyclesOf first b) (slotCycle memory slot) (slotApplied memory slot)) 0 (told 13 0))
+    (told (readNumber (slotImage memory slot)) (readCarried (slotImage memory slot)))
+
+abbrev pub goToTold : (ℕ → ℕ → ℕ) → Player → ℕ → List ℕ → List ℕ → ℕ
+goToTold told p slot b memory =
+    standingTold told p b
+    (cond (leb 6848 (length memory))
+    (cond (leb slot 15) (cond (isSet slot (p .marks)) (slotTold told slot b memory) (told 15 0)) (told 14 0))
+    (told 2 0))
+
+abbrev pub goToNumber : Player → ℕ → List ℕ → List ℕ → ℕ
+goToNumber p slot b memory = goToTold itsNumber p slot b memory
+
+abbrev pub goToCarried : Player → ℕ → List ℕ → List ℕ → ℕ
+goToCarried p slot b memory = goToTold itsCarried p slot b memory

@@ -2,8 +2,8 @@
 use crate::digest;
 use crate::report;
 use crate::report::Replay;
-use image::image::read_image;
-use image::image::write_image;
+use image::read_image;
+use image::write_image;
 use libc::STDIN_FILENO;
 use little::Width;
 use refusal::Answer;

@@ -1,0 +1,81 @@
+use Prim.Native.Nat.{_≤_, _-_}
+use mathlib.Core.Path.{_≡_, refl, sym, ap, _∙_}
+use Rattle.refusal.specs.declared.Answer.the-variants.{Refused}
+use native.Mathlib.Omega.{arith}
+use denote.Ref.{now}
+use Rattle.image.specs.Image.{scan}
+use Rattle.image.specs.Table.{rowAt}
+use Rattle.image.proofs.ImageLaws as laws
+use borrow.Author.Needs.{needs}
+use Rattle.image.proofs.check_fields.Statement.{statement}
+use Rattle.image.proofs.check_fields.Tie as tie
+use Rattle.image.proofs.check_fields.Reads as reads
+use Rattle.image.proofs.check_fields.Lts as lts
+use Rattle.image.proofs.refusal_at.Reads as refusal-at-reads
+use Rattle.image.proofs.table.at_fault.Reads as at-fault-reads
+use Rattle.image.proofs.table.row_at.Reads as row-at-reads
+
+abbrev Inv-loop : tie.InvT-loop
+Inv-loop f i₀ i = (i ≤ 325) × (scan rowAt f 325 0 ≡ scan rowAt f (325 - i) i)
+
+abbrev μ-loop : tie.MeasureT-loop
+μ-loop f i₀ i = 325 - i
+
+loop-holds : tie.Need-loop-holds Inv-loop μ-loop
+loop-holds c = (search needs, refl)
+
+cast-row-at : tie.Need-cast-row-at Inv-loop μ-loop
+cast-row-at c = search needs
+
+row-at-requires : tie.Need-row-at-requires Inv-loop μ-loop
+row-at-requires c κs = search needs
+
+element-copy-out-at-fault : tie.Need-element-copy-out-at-fault Inv-loop μ-loop
+element-copy-out-at-fault c = search needs
+
+mul-at-fault : tie.Need-mul-at-fault Inv-loop μ-loop
+mul-at-fault c = search needs
+
+element-copy-out-at-fault-2 : tie.Need-element-copy-out-at-fault-2 Inv-loop μ-loop
+element-copy-out-at-fault-2 c = search needs
+
+at-fault-requires : tie.Need-at-fault-requires Inv-loop μ-loop
+at-fault-requires c κs = search needs
+
+refusal-at-requires : tie.Need-refusal-at-requires Inv-loop μ-loop
+refusal-at-requires c κs = search needs
+
+returns : tie.Need-returns Inv-loop μ-loop
+returns c = sym (c .before .before .before .before .before .before .before .loop .inv .1 ∙ laws.scan-fault rowAt (now (c .before .before .before .before .before .before .before .before .args .f)) 325 (c .before .before .before .before .before .before .before .loop .i) (search needs) (c .before .before .before .before .before .row-at .ensures) refl (sym (c .before .before .at-fault .ensures) ∙ c .before .if1 .taken) ∙ ap Refused (sym (c .refusal-at .ensures)))
+
+add-i : tie.Need-add-i Inv-loop μ-loop
+add-i c = search needs
+
+loop-less : tie.Need-loop-less Inv-loop μ-loop
+loop-less c = search needs
+
+loop-again : tie.Need-loop-again Inv-loop μ-loop
+loop-again c = (search needs, c .before .before .before .before .before .before .loop .inv .1 ∙ laws.scan-on rowAt (now (c .before .before .before .before .before .before .before .args .f)) 325 (c .before .before .before .before .before .before .loop .i) (search needs) (c .before .before .before .before .row-at .ensures) refl (sym (c .before .at-fault .ensures) ∙ c .if1 .left))
+
+returns-2 : tie.Need-returns-2 Inv-loop μ-loop
+returns-2 c = sym (c .before .loop .inv .1 ∙ laws.scan-end rowAt (now (c .before .before .args .f)) 325 (c .before .loop .i) (c .loop-test .left))
+
+pub check-fields-spec : {M : Type 1} → statement M
+check-fields-spec =
+    tie.close
+    (tie.spec
+    Inv-loop
+    μ-loop
+    loop-holds
+    cast-row-at
+    row-at-requires
+    element-copy-out-at-fault
+    mul-at-fault
+    element-copy-out-at-fault-2
+    at-fault-requires
+    refusal-at-requires
+    returns
+    add-i
+    loop-less
+    loop-again
+    returns-2)
