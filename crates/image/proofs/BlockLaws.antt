@@ -24,6 +24,7 @@ use Rattle.image.specs.declared.table.Cell.{Cell}
 use Rattle.image.specs.declared.table.Own.the-variants.{None, Exactly, Tap, LowestBit}
 use Rattle.little.specs.declared.Width.{Width}
 use Rattle.little.specs.declared.Width.the-variants.{U8, U16, U32}
+use Rattle.image.proofs.FieldsLaws.{bit-le}
 use Rattle.image.proofs.ImageLaws.{at, below}
 
 -- flags: unpacked and packed
@@ -35,13 +36,9 @@ of-each : (t : Bool → Bool) → eachWay t ≡ true → (b : Bool) → t b ≡ 
 of-each t h true = each (t true) (t false ∷ []) h (λ k. k .0)
 of-each t h false = each (t true) (t false ∷ []) h (λ k. k .1 .0)
 
-bit-most : (b : Bool) → bitOf b ≤ 1
-bit-most true = omega arith
-bit-most false = omega arith
-
 pub flags-most : (a b c d e : Bool) → flagsOf a b c d e ≤ 31
 unfolding flagsOf
-flags-most a b c d e = omega (arith, bit-most a, bit-most b, bit-most c, bit-most d, bit-most e)
+flags-most a b c d e = omega (arith, bit-le a, bit-le b, bit-le c, bit-le d, bit-le e)
 
 pub packed : (f : ℕ) → f ≤ 31 → flagsOf (bit 0 f) (bit 1 f) (bit 2 f) (bit 3 f) (bit 4 f) ≡ f
 unfolding flagsOf

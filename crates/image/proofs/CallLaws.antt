@@ -8,6 +8,7 @@ use borrow.Author.Tests.{eq-eqb, ne-eqb, le-leb, lt-leb}
 use lib.Dec.{eqb, leb, ltb}
 use lib.ListN.{drop, getD, length}
 use lib.Seq.{sets, sets-eq}
+use Rattle.laws.proofs.Cases.{chosen}
 use Rattle.refusal.specs.Refusal.{answerCarried, answerNumber, carriedOf, numberOf}
 use Rattle.refusal.specs.declared.Answer.{Answer}
 use Rattle.refusal.specs.declared.Answer.the-variants.{Accepted, Refused}
@@ -54,24 +55,17 @@ module _ (u : Vsu) (out : List ℕ) where
 
 module _ (g : Answer → ℕ) (told : ℕ → ℕ → ℕ) (fine : g Accepted ≡ 0) (refused : (why : Refusal) → g (Refused why) ≡ told (numberOf why) (carriedOf why)) where
   field-told : (offset : ℕ) → g (Refused (refusalAt rowAt offset)) ≡ cond (ltb offset 16) (told 10 0) (told 11 offset)
-  field-told offset = go (ltb offset 16)
-    where
-      go : (t : Bool) → g (Refused (cond t ImageHeader (ImageField offset))) ≡ cond t (told 10 0) (told 11 offset)
-      go true = refused ImageHeader
-      go false = refused (ImageField offset)
-
-  chosen : (t : Bool) {x y : Answer} {p q : ℕ} → g x ≡ p → g y ≡ q → g (cond t x y) ≡ cond t p q
-  chosen true p q = p
-  chosen false p q = q
+  field-told offset =
+      chosen (λ (r : Refusal). g (Refused r)) (ltb offset 16) (refused ImageHeader) (refused (ImageField offset))
 
   scan-told : (f : List ℕ) (n i : ℕ) → g (scan rowAt f n i) ≡ scanTold rowAt told f n i
   unfolding scan scanTold
   scan-told f zero i = fine
-  scan-told f (suc n) i = chosen (faulty (getD f 311 0) (rowAt i) (getD f i 0)) (field-told (rowAt i .offset)) (scan-told f n (suc i))
+  scan-told f (suc n) i = chosen g (faulty (getD f 311 0) (rowAt i) (getD f i 0)) (field-told (rowAt i .offset)) (scan-told f n (suc i))
 
   read-told : (b : List ℕ) → g (readAnswer b) ≡ readTold told b
   unfolding readAnswer readTold
-  read-told b = chosen (eqb (length b) 420) (scan-told (fieldsIn b) 325 0) (refused ImageSize)
+  read-told b = chosen g (eqb (length b) 420) (scan-told (fieldsIn b) 325 0) (refused ImageSize)
 
 answer-of : (a : Answer) (f : List ℕ) → loadedBy a f .answer ≡ a
 unfolding loadedBy

@@ -31,7 +31,7 @@ use Rattle.image.specs.Fields.{bitOf, flagsOf, byteOf, ninthOf, tenthOf,
 
 -- flags: each bit is laid over the ones below it
 
-bit-le : (b : Bool) → bitOf b ≤ 1
+pub bit-le : (b : Bool) → bitOf b ≤ 1
 bit-le true = omega arith
 bit-le false = omega arith
 

@@ -11,7 +11,7 @@ use borrow.Author.Tests.{eqb-true, leb-true, lt-ltb, le-ltb}
 use lib.Dec.{eqb, leb, ltb}
 use lib.ListN.{getD, set, take, drop, length, replicate, length-append, length-replicate, length-drop, List·getD-append}
 use lib.Seq.{sets, sets-eq, drop-append-seam, getD-at, ext-getD, take-add, getD-drop, drop-length, take-all, drop-at}
-use Rattle.laws.proofs.Cases.{both, each}
+use Rattle.laws.proofs.Cases.{ahead, each}
 use Rattle.little.proofs.LittleLaws.{sets-append, bytes-length, front-bytes, bytes-front}
 use Rattle.little.specs.Little.{bytes, front, number, sizeOf}
 use Rattle.refusal.specs.declared.Answer.{Answer}
@@ -108,16 +108,8 @@ module _ (row : ℕ → Row) (f : List ℕ) (count i : ℕ) where
 
 -- An accepted image has no field at fault; a refused one's offset is that of the first, and no lower one is at fault.
 
-never : {why : Refusal} → Refused why ≡ Accepted → ⊥
+pub never : {why : Refusal} → Refused why ≡ Accepted → ⊥
 never e = let z : _≡_ {A = ℕ} 0 1 = cc in omega arith
-
--- one more index, where the first is known and the others are
-ahead : (P : ℕ → Type 0) (n i : ℕ) → P i → ((j : ℕ) → suc i ≤ j → j < suc i + n → P j) → (j : ℕ) → i ≤ j → j < i + suc n → P j
-ahead P n i p r j h g = go (ℕ-discrete i j)
-  where
-    go : Dec (i ≡ j) → P j
-    go (yes e) = subst P e p
-    go (no d) = r j (omega arith) (omega arith)
 
 module _ (row : ℕ → Row) (f : List ℕ) where
   abbrev pub atFault : ℕ → Bool

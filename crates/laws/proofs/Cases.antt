@@ -1,7 +1,10 @@
--- How a test is taken apart: the tests that `&&` joins, and the two ways of a `cond`.
-use mathlib.Core.Path.{_≡_, refl}
+-- How a test is taken apart: the tests that `&&` joins, and the two ways of a `cond`; and one more index of a range.
+use Prim.Native.Nat.{ℕ, suc, _+_, _<_, _≤_}
+use mathlib.Core.Path.{_≡_, refl, subst}
 use mathlib.Core.Bool.{Bool, true, false, cond, _&&_, _||_, and-eq-true-iff, true≢false}
 use mathlib.Core.List.{List, [], _∷_}
+use native.Mathlib.Decide.{ℕ-discrete}
+use native.Mathlib.Omega.{arith}
 
 pub both : {a b : Bool} → a ≡ true → b ≡ true → (a && b) ≡ true
 both p q = rw (p, q)
@@ -26,3 +29,16 @@ ways P false t f = f refl
 pub neither : (a b : Bool) → (a || b) ≡ false → (a ≡ false) × (b ≡ false)
 neither true b h = absurd (true≢false h)
 neither false b h = (refl, h)
+
+-- what a function makes of a choice is a choice of what it makes
+pub chosen : {A B : Type 0} (f : A → B) (t : Bool) {x y : A} {u v : B} → f x ≡ u → f y ≡ v → f (cond t x y) ≡ cond t u v
+chosen f true p q = p
+chosen f false p q = q
+
+-- one more index, where the first is known and the others are
+pub ahead : (P : ℕ → Type 0) (n i : ℕ) → P i → ((j : ℕ) → suc i ≤ j → j < suc i + n → P j) → (j : ℕ) → i ≤ j → j < i + suc n → P j
+ahead P n i p r j h g = go (ℕ-discrete i j)
+  where
+    go : Dec (i ≡ j) → P j
+    go (yes e) = subst P e p
+    go (no d) = r j (omega arith) (omega arith)

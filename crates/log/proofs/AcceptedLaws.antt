@@ -4,14 +4,13 @@ use Prim.Native.Nat.{ℕ, zero, suc, _+_, _-_, _*_, _<_, _≤_}
 use mathlib.Core.Path.{_≡_, refl, sym, ap, subst, _∙_}
 use mathlib.Core.Bool.{Bool, true, false, cond, not, _&&_, _||_, or-true, true≢false}
 use mathlib.Core.List.{List, [], _∷_}
-use native.Mathlib.Decide.{ℕ-discrete}
 use native.Mathlib.Nat.{add-zero, add-suc, le-refl, le-trans}
 use native.Mathlib.Numerals.{add-one}
 use native.Mathlib.Omega.{arith}
 use borrow.Author.Tests.{lt-ltb, le-ltb, le-leb, lt-leb, eq-eqb, ne-eqb, ltb-true, ltb-false, leb-true, leb-false, eqb-true, eqb-false, not-true, not-false}
 use lib.Dec.{eqb, leb, ltb}
 use lib.ListN.{getD, length}
-use Rattle.laws.proofs.Cases.{both, each, neither, ways}
+use Rattle.laws.proofs.Cases.{ahead, both, each, neither, ways}
 use Rattle.little.specs.Little.{number}
 use Rattle.refusal.specs.Refusal.{numberOf}
 use Rattle.refusal.specs.declared.Refusal.{Refusal}
@@ -32,14 +31,6 @@ writes-length l b (suc n) i = ap suc (writes-length l b n (suc i))
 
 never : {why : Refusal} {n k : ℕ} → checked.Refused why ≡ checked.Log n k → ⊥
 never e = let z : _≡_ {A = ℕ} 0 1 = cc in omega arith
-
--- one more index, where the first is known and the others are
-ahead : (P : ℕ → Type 0) (n i : ℕ) → P i → ((j : ℕ) → suc i ≤ j → j < suc i + n → P j) → (j : ℕ) → i ≤ j → j < i + suc n → P j
-ahead P n i p r j h g = go (ℕ-discrete i j)
-  where
-    go : Dec (i ≡ j) → P j
-    go (yes e) = subst P e p
-    go (no d) = r j (omega arith) (omega arith)
 
 module _ (l : Layout) (b : List ℕ) (count cycles : ℕ) where
   abbrev pub Sound : ℕ → ℕ → ℕ → ℕ → Type 0

@@ -8,7 +8,7 @@ use native.Mathlib.Omega.{arith}
 use borrow.Author.Tests.{lt-ltb, le-ltb, eq-eqb, ne-eqb}
 use lib.Dec.{eqb, leb, ltb}
 use lib.ListN.{getD, length}
-use Rattle.laws.proofs.Cases.{ways}
+use Rattle.laws.proofs.Cases.{chosen, ways}
 use Rattle.little.specs.Little.{number}
 use Rattle.refusal.specs.Refusal.{numberOf, carriedOf}
 use Rattle.refusal.specs.declared.Refusal.{Refusal}
@@ -134,10 +134,6 @@ pub count-start : (b : List ℕ) (count cycle : ℕ) → 0 + dueBefore (writesFr
 count-start b count cycle = let z : count - 0 ≡ count = omega arith in rw z (omega arith)
 
 -- the numbers and the values
-
-chosen : {A B : Type 0} (f : A → B) (t : Bool) {x y : A} {u v : B} → f x ≡ u → f y ≡ v → f (cond t x y) ≡ cond t u v
-chosen f true p q = p
-chosen f false p q = q
 
 module _ (f : Checked → ℕ) (told : ℕ → ℕ → ℕ) (log : (c k : ℕ) → f (checked.Log c k) ≡ 0) (refused : (why : Refusal) → f (checked.Refused why) ≡ told (numberOf why) (carriedOf why)) where
   scan-told : (l : Layout) (b : List ℕ) (count cycles n i : ℕ) → f (scan l b count cycles n i) ≡ scanTold (told 8) l b cycles n i

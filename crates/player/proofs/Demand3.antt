@@ -21,6 +21,7 @@ use Rattle.log.specs.declared.Checked.the-variants as checked
 use Rattle.log.specs.declared.Write.{Write}
 use Rattle.log.proofs.AcceptedLaws.{accepted, writes-length}
 use Rattle.image.specs.Image.{imageOf}
+use Rattle.image.proofs.ImageLaws.{never}
 use Rattle.image.proofs.RoundTrip.{image-420, reads-back}
 use Rattle.refusal.specs.declared.Answer.{Answer}
 use Rattle.refusal.specs.declared.Answer.the-variants.{Accepted, Refused}
@@ -39,9 +40,6 @@ use Rattle.player.specs.declared.Player.{Player}
 use Rattle.player.specs.declared.Turn.{Turn}
 use Rattle.player.proofs.MarksLaws.{lowest-unset, set-with, set-without, unset-at-first}
 use Rattle.player.proofs.WalkLaws.{bytes-of, due-most, due-none, frames-on-length, frames-span, state-add, state-keeps, state-run}
-
-never : {why : Refusal} → Refused why ≡ Accepted → ⊥
-never e = let z : _≡_ {A = ℕ} 0 1 = cc in omega arith
 
 -- A run of stores, seen through a window that it does not touch, and through its own.
 

@@ -8,7 +8,7 @@ use borrow.Author.Tests.{eq-eqb}
 use lib.Dec.{eqb, leb, ltb}
 use lib.ListN.{drop, getD, length, length-drop}
 use lib.Seq.{length-take-le}
-use Rattle.laws.proofs.Cases.{ways}
+use Rattle.laws.proofs.Cases.{chosen, ways}
 use Rattle.log.proofs.AcceptedLaws.{accepted}
 use Rattle.log.proofs.LogLaws as log
 use Rattle.log.specs.Log.{checkCarried, checkNumber, checkOf, countOf, cyclesOf, first}
@@ -49,10 +49,6 @@ above Place = refl
 above MarkNumber = refl
 above MarkUnset = refl
 above MarksFull = refl
-
-chosen : {A : Type 0} (f : A → ℕ) (t : Bool) {x y : A} {m n : ℕ} → f x ≡ m → f y ≡ n → f (cond t x y) ≡ cond t m n
-chosen f true p q = p
-chosen f false p q = q
 
 -- the log and the record: g tells of what a call does with their check
 
