@@ -16,7 +16,8 @@ use Rattle.image.specs.Table.{faulty, rowAt}
 use Rattle.image.specs.declared.Loaded.{Loaded}
 use Rattle.image.specs.declared.table.Row.{Row}
 
--- The definitions of this part take any table of rows, so that a later edition is another table.
+-- The definitions of this part take any table of rows, so that a later edition is another table: one with the header below offset 16
+-- and the noise's shift as field 311.
 
 module _ (row : ℕ → Row) where
   -- the bytes of the first n fields' values, one after the other

@@ -24,17 +24,20 @@ header =
     (0, U16, 1, Exactly) ∷ (2, U16, 16, Exactly) ∷ (4, U32, 420, Exactly) ∷ (8, U16, 5, Exactly) ∷ (10, U16, 6, Exactly)
     ∷ (12, U16, 208, Exactly) ∷ (14, U16, 400, Exactly) ∷ []
 
--- "wave samples 0..63"
+-- "Waves at 16 (5 × 32)", "wave samples 0..63"
 abbrev pub sample : List Cell
 sample = (0, U8, 63, None) ∷ []
 
+-- "modulation at 176": a byte of any value, signed when it is read
 abbrev pub entry : List Cell
 entry = (0, U8, 255, None) ∷ []
 
 -- "Channel block, 32 bytes: +0 flags (auto-stop, play, up, envelope on, envelope loop), +1 live interval, +2 its counter, +3 left,
 -- +4 right, +5 level, +6 envelope interval, +7 reload, +8 envelope step, +9 bank or tap, +10 position or output, +11 zero, +12 u16
 -- frequency, +14 u16 its counter, +16 u32 live tick, +20 u32 tick, +24 u32 envelope tick, +28 u16 shift (zero for waves), +30 u16
--- zero"
+-- zero". "live interval and its counter 0..31; live tick 0..76,804; volumes, level, reload 0..15; frequencies and frequency counter
+-- 0..2047; tick 0..3 or 0..39; envelope interval and step 0..7, tick 0..307,218; bank 0..7; positions and modulation index 0..31;
+-- shift 0..32,767"; five flags make 31 at most
 abbrev pub channel : Cell → Cell → ℕ → ℕ → List Cell
 channel ninth tenth tick shift =
     (0, U8, 31, None) ∷ (1, U8, 31, None) ∷ (2, U8, 31, None) ∷ (3, U8, 15, None) ∷ (4, U8, 15, None) ∷ (5, U8, 15, None)
@@ -49,7 +52,8 @@ abbrev pub noise : List Cell
 noise = channel (9, U8, 14, Tap) (10, U8, 1, LowestBit) 39 32767
 
 -- "Sweep: +0 flags (enable, loop, modulate, slow, up), +1 interval, +2 shift, +3 interval counter, +4 u32 step counter, +8 index,
--- +9 zero, +10, +12, +14 u16 last written, current, next. Output counter u16 at 416; u16 zero at 418."
+-- +9 zero, +10, +12, +14 u16 last written, current, next. Output counter u16 at 416; u16 zero at 418." "sweep
+-- shift and interval 0..7, interval counter 0..6, step counter 0..153,608; output counter 0..479"
 abbrev pub sweep : List Cell
 sweep =
     (0, U8, 31, None) ∷ (1, U8, 7, None) ∷ (2, U8, 7, None) ∷ (3, U8, 6, None) ∷ (4, U32, 153608, None) ∷ (8, U8, 31, None)
@@ -95,7 +99,8 @@ rowIn field p =
 abbrev pub rowAt : ℕ → Row
 rowAt field = rowIn field (partOf field)
 
--- "tap one of the eight"; "Output (378) is compared with the lowest bit of byte 396": of the shift; the header is what it is
+-- Own rules. `Exactly`, of a header's number: not below its largest value either. `Tap`: "tap one of the eight". `LowestBit`: "Output
+-- (378) is compared with the lowest bit of byte 396", that of the shift.
 
 unfoldable pub brokenBy : Own → ℕ → ℕ → ℕ → Bool
 brokenBy None most shift value = false

@@ -394,12 +394,12 @@ module _ (b : List ℕ) (small : allAtMost 255 b ≡ true) (count cycles : ℕ) 
         }
 
     -- "12", and nothing else, refuses a seek here
-    seek-accepted : (t : ℕ) → t ≤ cycles → answerOf b (seek t) d ≡ Accepted
+    pub seek-accepted : (t : ℕ) → t ≤ cycles → answerOf b (seek t) d ≡ Accepted
     unfolding answerOf seekBy
     seek-accepted t l = ap (λ (c : Checked). seekBy c p t b .answer) stands ∙ rw (le-leb t cycles l)
 
     -- a go-to of a set mark is accepted: its slot is never at fault
-    goes : (k : ℕ) → k ≤ 15 → isSet k (p .marks) ≡ true → answerOf b (goTo k) d ≡ Accepted
+    pub goes : (k : ℕ) → k ≤ 15 → isSet k (p .marks) ≡ true → answerOf b (goTo k) d ≡ Accepted
     unfolding answerOf goToBy
     goes k l s =
         let o : Kept (d .memory) k (m .mark k) = h .kept k l s in
@@ -420,7 +420,7 @@ module _ (b : List ℕ) (small : allAtMost 255 b ≡ true) (count cycles : ℕ) 
         (λ _ e. absurd (never e)))
         (λ _ e. absurd (never e)))
 
-    set-now : (k : ℕ) → answerOf b (mark k) d ≡ Accepted → (k ≤ 15) × ((isSet k (after b (mark k) d .player .marks) ≡ true) × (namedBy (answerOf b (mark k) d) (mark k) (lowestFree (p .marks)) m .mark k ≡ m .cycle))
+    pub set-now : (k : ℕ) → answerOf b (mark k) d ≡ Accepted → (k ≤ 15) × ((isSet k (after b (mark k) d .player .marks) ≡ true) × (namedBy (answerOf b (mark k) d) (mark k) (lowestFree (p .marks)) m .mark k ≡ m .cycle))
     unfolding answerOf after
     set-now k a = is-now k a
 

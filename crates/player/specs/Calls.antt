@@ -91,7 +91,7 @@ yields ws before Accepted n out =
 yields ws before (Refused why) n out = out
 
 -- What demand 3 says of a deck, where the calls have named m: it stands in the run of the log's writes at the cycle named, and a play
--- from there yields the run's frames.
+-- from there yields the run's frames. A play among the calls is the one after those before it.
 pub record InRun (b : List ℕ) (ws : List Write) (d : Deck) (m : Named) : Type 0 where
   pub cycle : d .player .cycle ≡ m .cycle
   pub unit : d .player .unit ≡ stateAt ws (m .cycle)

@@ -1,6 +1,5 @@
 -- The player, in document 01's words: a record, the calls and their refusals in order.
-use Prim.Native.Nat.{ℕ, zero, suc, _+_, _-_, _*_}
-use mathlib.Core.Path.{_≡_}
+use Prim.Native.Nat.{ℕ, _+_, _-_, _*_}
 use mathlib.Core.Bool.{Bool, true, false, cond, _&&_}
 use mathlib.Core.List.{List, [], _∷_, _++_}
 use lib.Dec.{eqb, leb}
@@ -8,7 +7,7 @@ use lib.IntN.{ℤ}
 use lib.ListN.{drop, length, take}
 use lib.Seq.{sets}
 use Rattle.little.specs.Little.{bytes, number}
-use Rattle.log.specs.Log.{checkCarried, checkNumber, checkOf, countOf, cyclesOf, dueBefore, first, writesFrom, writesOf}
+use Rattle.log.specs.Log.{checkCarried, checkNumber, checkOf, countOf, cyclesOf, dueBefore, first, writesFrom}
 use Rattle.log.specs.declared.Checked.{Checked}
 use Rattle.log.specs.declared.Checked.the-variants as checked
 use Rattle.log.specs.declared.Write.{Write}
