@@ -1,19 +1,20 @@
 -- Demand 3's words: "after any play, seek, set, clear and go-to-mark calls from a fresh opening, refused ones among them, the player
 -- stands at the cycle the calls name, in the state that one unbroken run from power-on, cycle by cycle, has there. Each accepted
 -- play yields exactly that run's frames in its span."
-use Prim.Native.Nat.{ℕ, zero, suc, _+_, _-_, _*_}
+use Prim.Native.Nat.{ℕ, _+_, _*_, _/_}
 use mathlib.Core.Path.{_≡_}
-use mathlib.Core.Bool.{Bool, true, false, cond}
+use mathlib.Core.Bool.{cond}
 use mathlib.Core.List.{List, [], _∷_, _++_}
-use lib.Dec.{eqb}
+use lib.Dec.{eqb, leb}
 use lib.IntN.{ℤ}
 use lib.ListN.{drop, length}
 use Rattle.log.specs.Log.{dueBefore}
 use Rattle.log.specs.declared.Write.{Write}
 use Rattle.refusal.specs.declared.Answer.{Answer}
 use Rattle.refusal.specs.declared.Answer.the-variants.{Accepted, Refused}
+use Rattle.refusal.specs.declared.Refusal.the-variants.{BeyondEnd, MarkNumber, MarkUnset, MarksFull, Room}
 use Rattle.vsu.specs.Core.{sides}
-use Rattle.player.specs.Marks.{lowestFree}
+use Rattle.player.specs.Marks.{isSet, lowestFree, withMark, withoutMark}
 use Rattle.player.specs.Player.{clearOf, fresh, goToOf, playOf, playOut, seekOf, setFreeMemory, setFreeOf, setMemory, setOf}
 use Rattle.player.specs.Walk.{framesIn, stateAt}
 use Rattle.player.specs.declared.Player.{Player}
@@ -57,32 +58,57 @@ unfoldable pub afterAll : List ℕ → List Call → Deck → Deck
 afterAll b [] d = d
 afterAll b (c ∷ cs) d = afterAll b cs (after b c d)
 
--- The cycle that the calls name, and the cycle at which each mark was last set.
+-- What the calls name, by document 01 alone: no player is asked. The cycle, the marks that are set, the cycle at which each was last
+-- set.
 
 pub record Named : Type 0 where
   pub cycle : ℕ
+  pub marks : ℕ
   pub mark : ℕ → ℕ
 
 abbrev pub atStart : Named
-atStart = record { cycle = 0; mark = λ (k : ℕ). 0 }
+atStart = record { cycle = 0; marks = 0; mark = λ (k : ℕ). 0 }
+
+-- the answer to a call there, in 01's order: with the writes and the length L of an accepted log, and the mark memory's size
+unfoldable pub answerAt : List Write → ℕ → ℕ → Call → Named → Answer
+answerAt ws cycles size (play n out) m =
+    cond (leb (m .cycle + n) cycles)
+    (cond (leb (length (framesIn ws (m .cycle) (m .cycle + n))) (length out / 2)) Accepted (Refused Room))
+    (Refused BeyondEnd)
+answerAt ws cycles size (seek t) m = cond (leb t cycles) Accepted (Refused BeyondEnd)
+answerAt ws cycles size (set k) m =
+    cond (leb 6848 size) (cond (leb k 15) Accepted (Refused MarkNumber)) (Refused Room)
+answerAt ws cycles size setFree m =
+    cond (leb 6848 size) (cond (leb (lowestFree (m .marks)) 15) Accepted (Refused MarksFull)) (Refused Room)
+answerAt ws cycles size (clear k) m =
+    cond (leb k 15) (cond (isSet k (m .marks)) Accepted (Refused MarkUnset)) (Refused MarkNumber)
+answerAt ws cycles size (goTo k) m =
+    cond (leb 6848 size)
+    (cond (leb k 15) (cond (isSet k (m .marks)) Accepted (Refused MarkUnset)) (Refused MarkNumber))
+    (Refused Room)
+
+-- mark k set at the present cycle
+abbrev pub setNow : ℕ → Named → Named
+setNow k m =
+    record { cycle = m .cycle; marks = withMark k (m .marks); mark = λ (j : ℕ). cond (eqb j k) (m .cycle) (m .mark j) }
 
 -- "a play adds n, a seek names t, a go-to names the cycle at which that mark was last set", set and clear name none
-unfoldable pub names : Call → ℕ → Named → Named
-names (play n out) free m = record { cycle = m .cycle + n; mark = m .mark }
-names (seek t) free m = record { cycle = t; mark = m .mark }
-names (set k) free m = record { cycle = m .cycle; mark = λ (j : ℕ). cond (eqb j k) (m .cycle) (m .mark j) }
-names setFree free m = record { cycle = m .cycle; mark = λ (j : ℕ). cond (eqb j free) (m .cycle) (m .mark j) }
-names (clear k) free m = m
-names (goTo k) free m = record { cycle = m .mark k; mark = m .mark }
+unfoldable pub names : Call → Named → Named
+names (play n out) m = record { cycle = m .cycle + n; marks = m .marks; mark = m .mark }
+names (seek t) m = record { cycle = t; marks = m .marks; mark = m .mark }
+names (set k) m = setNow k m
+names setFree m = setNow (lowestFree (m .marks)) m
+names (clear k) m = record { cycle = m .cycle; marks = withoutMark k (m .marks); mark = m .mark }
+names (goTo k) m = record { cycle = m .mark k; marks = m .marks; mark = m .mark }
 
 -- a refused call names nothing
-unfoldable pub namedBy : Answer → Call → ℕ → Named → Named
-namedBy Accepted c free m = names c free m
-namedBy (Refused why) c free m = m
+unfoldable pub namedBy : Answer → Call → Named → Named
+namedBy Accepted c m = names c m
+namedBy (Refused why) c m = m
 
-unfoldable pub namedAll : List ℕ → List Call → Deck → Named → Named
-namedAll b [] d m = m
-namedAll b (c ∷ cs) d m = namedAll b cs (after b c d) (namedBy (answerOf b c d) c (lowestFree (d .player .marks)) m)
+unfoldable pub namedAll : List Write → ℕ → ℕ → List Call → Named → Named
+namedAll ws cycles size [] m = m
+namedAll ws cycles size (c ∷ cs) m = namedAll ws cycles size cs (namedBy (answerAt ws cycles size c m) c m)
 
 -- What a play leaves in its buffer: the run's frames of its span, then the buffer's old elements; a refused one leaves it.
 unfoldable pub yields : List Write → ℕ → Answer → ℕ → List ℤ → List ℤ
@@ -90,14 +116,21 @@ yields ws before Accepted n out =
     sides (framesIn ws before (before + n)) ++ drop (length (framesIn ws before (before + n)) * 2) out
 yields ws before (Refused why) n out = out
 
--- What demand 3 says of a deck, where the calls have named m: it stands in the run of the log's writes at the cycle named, and a play
--- from there yields the run's frames. A play among the calls is the one after those before it.
-pub record InRun (b : List ℕ) (ws : List Write) (d : Deck) (m : Named) : Type 0 where
+-- how many frames it answers
+unfoldable pub yieldsCount : List Write → ℕ → Answer → ℕ → ℕ
+yieldsCount ws before Accepted n = length (framesIn ws before (before + n))
+yieldsCount ws before (Refused why) n = 0
+
+-- What demand 3 says of a deck, where the calls have named m: it stands in the run of the log's writes at the cycle named, the next
+-- call is answered as 01 says, and a play from there yields the run's frames. A play among the calls is the one after those before it.
+pub record InRun (b : List ℕ) (ws : List Write) (cycles size : ℕ) (d : Deck) (m : Named) : Type 0 where
   pub cycle : d .player .cycle ≡ m .cycle
   pub unit : d .player .unit ≡ stateAt ws (m .cycle)
   pub applied : d .player .applied ≡ dueBefore ws (m .cycle)
-  pub plays : (n : ℕ) (out : List ℤ) → playOut (d .player) n b out ≡ yields ws (m .cycle) (answerOf b (play n out) d) n out
-  pub counts : (n : ℕ) (out : List ℤ) → answerOf b (play n out) d ≡ Accepted → playOf (d .player) n b (length out) .frames ≡ length (framesIn ws (m .cycle) (m .cycle + n))
+  pub marks : d .player .marks ≡ m .marks
+  pub answers : (c : Call) → answerOf b c d ≡ answerAt ws cycles size c m
+  pub plays : (n : ℕ) (out : List ℤ) → playOut (d .player) n b out ≡ yields ws (m .cycle) (answerAt ws cycles size (play n out) m) n out
+  pub counts : (n : ℕ) (out : List ℤ) → playOf (d .player) n b (length out) .frames ≡ yieldsCount ws (m .cycle) (answerAt ws cycles size (play n out) m) n
 
 -- "from a fresh opening", and any mark memory
 abbrev pub opened : List ℕ → Deck
