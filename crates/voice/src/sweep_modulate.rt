@@ -167,6 +167,16 @@ pub fn sweep_step(s: SweepModulate, channel: Channel, modulation_data: &[i8; 32]
     increment_sweep_mod(t, channel, modulation_data)
 }
 
+// The Rust's `SweepModulate::step`: channel 5's record is lent, and an overflowing sweep stops it there.
+pub fn step(s: SweepModulate, channel: &mut Channel, modulation_data: &[i8; 32]) -> SweepModulate
+    ensures { λ r. ⌜ (r ≡ sweepStep (now («modulation_data» .entry)) (now (channel .entry)) s .sweep)
+        × (now (channel .exit) ≡ sweepStep (now («modulation_data» .entry)) (now (channel .entry)) s .channel) ⌝ }
+{
+    let t = sweep_step(s, *channel, modulation_data);
+    *channel = t.channel;
+    t.sweep
+}
+
 pub fn in_range(s: SweepModulate) -> bool
     ensures { λ r. ⌜ r ≡ sweepInRange s ⌝ }
 {
