@@ -1,0 +1,111 @@
+// The log on standard input as a 16-bit stereo WAV of its frames on standard output.
+mod riff;
+
+use libc::STDERR_FILENO;
+use libc::STDIN_FILENO;
+use libc::STDOUT_FILENO;
+use log::Checked;
+use player::Player;
+use refusal::Refusal;
+use report::progress;
+use report::text;
+
+// A log of any length is played in plays of at most 1,024 frames: their cycles.
+const SPAN: u32 = 480 * 1024;
+
+// The player, whether all that it played is written, and how much was last told to be done.
+struct Playing {
+    player: Player,
+    written: bool,
+    told: u32,
+}
+
+// Of more bytes than there are, which nothing here asks for, none.
+fn front(fd: i32, bytes: &[u8], size: usize) -> bool {
+    if size > bytes.len() {
+        return false;
+    }
+    io::write_all(fd, &bytes[..size])
+}
+
+// n cycles, at most a span and not beyond L: so the play is never refused.
+fn play(s: Playing, n: u32, log: &[u8], cycles: u32) -> Playing {
+    let mut sides = [0i16; 2048];
+    let mut bytes = [0u8; 4096];
+    let p = s.player;
+    let r = player::play(p, n, log, &mut sides);
+    let q = r.player;
+    let size = riff::frames(&mut bytes, &sides, r.frames);
+    let written = front(STDOUT_FILENO, &bytes, size);
+    Playing {
+        player: q,
+        written: written,
+        told: progress::show(s.told, q.cycle, cycles),
+    }
+}
+
+// Whether all frames are written. A log of one span is done before there is anything to tell: hence the 100 at first.
+fn frames(log: &[u8], cycles: u32) -> bool {
+    let t = player::open(log);
+    let p = t.player;
+    let mut s = Playing {
+        player: p,
+        written: true,
+        told: 100,
+    };
+    let spans = cycles / SPAN;
+    let mut i = 0;
+    while i < spans {
+        s = play(s, SPAN, log, cycles);
+        if !s.written {
+            return false;
+        }
+        i += 1;
+    }
+    let last = play(s, cycles % SPAN, log, cycles);
+    last.written
+}
+
+fn sound(log: &[u8], cycles: u32) -> bool {
+    let mut header = [0u8; 44];
+    riff::header(&mut header, cycles);
+    io::write_all(STDOUT_FILENO, &header) && frames(log, cycles)
+}
+
+fn refused(why: Refusal) {
+    let mut line = [0u8; 64];
+    let a = text::refused(&mut line, 0, why);
+    let b = text::words(&mut line, a, b"\n");
+    front(STDERR_FILENO, &line, b);
+}
+
+// On a terminal the line may hold how much is done, and the message goes over it.
+fn unwritten() {
+    if libc::isatty(STDERR_FILENO) == 1 {
+        io::write_all(STDERR_FILENO, b"\r");
+    }
+    io::write_all(STDERR_FILENO, b"wav: standard output can't be written\n");
+}
+
+fn convert(log: &[u8]) {
+    let c = log::check_log(log);
+    match c {
+        Checked::Log { count: _, cycles } => {
+            if !sound(log, cycles) {
+                unwritten();
+            }
+        }
+        Checked::Refused(why) => refused(why),
+    }
+}
+
+// The input has room for one byte more than a log may have, so that a longer one shows.
+fn main() {
+    let mut space = [0u8; 1048577];
+    let size = io::read_full(STDIN_FILENO, &mut space);
+    if size > 1_048_576 {
+        refused(Refusal::Room);
+    } else {
+        convert(&space[..size]);
+    }
+}
