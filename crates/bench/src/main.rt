@@ -4,9 +4,9 @@ mod logs;
 
 use libc::STDIN_FILENO;
 use libc::STDOUT_FILENO;
+use report::sum::of_frames;
 use vsu::core;
 use vsu::core::Vsu;
-ghost use Prim.Native.Nat.{_≤_};
 
 struct Timed {
     unit: Vsu,
@@ -100,42 +100,13 @@ fn ready() -> Timed {
     Timed { unit: u, sum: 0 }
 }
 
-// A side is never below 0.
-fn side(value: i16) -> u32 {
-    if value < 0 {
-        return 0;
-    }
-    value as u32
-}
-
-fn fold(sum: u32, value: u32) -> u32 {
-    ((sum as u64 * 31 + value as u64) % 1_000_000_007) as u32
-}
-
-fn least(a: usize, b: usize) -> usize
-    ensures { λ r. ⌜ r ≤ b ⌝ }
-{
-    if a < b { a } else { b }
-}
-
-fn frames(start: u32, out: &[i16], made: u32) -> u32 {
-    let end = least(made as usize * 2, out.len());
-    let mut sum = start;
-    let mut i = 0;
-    while i < end {
-        sum = fold(sum, side(out[i]));
-        i += 1;
-    }
-    sum
-}
-
 fn run(t: Timed, n: u32, out: &mut [i16; 16384]) -> Timed {
     let u = t.unit;
     let r = core::run(u, n, out);
     let s = r.state;
     Timed {
         unit: s,
-        sum: frames(t.sum, out, r.frames),
+        sum: of_frames(t.sum, out, r.frames),
     }
 }
 

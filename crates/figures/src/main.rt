@@ -1,6 +1,7 @@
 // Runs document 01's "Run by program" figures and the refusals of the unit's calls, and prints what each gave.
 use libc::STDOUT_FILENO;
 use refusal::Answer;
+use report::sum::side;
 use voice::channel_enum::Kind;
 use vsu::core;
 use vsu::core::Vsu;
@@ -11,14 +12,6 @@ fn text(t: &[u8]) {
 
 fn number(n: u32) {
     io::print_decimal(STDOUT_FILENO, n as u64);
-}
-
-// A side is never below 0.
-fn side(value: i16) -> u32 {
-    if value < 0 {
-        return 0;
-    }
-    value as u32
 }
 
 fn set(u: Vsu, address: u32, value: u8) -> Vsu {

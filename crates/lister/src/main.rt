@@ -1,46 +1,63 @@
 // Lists the log on standard input as document 01's "The listing" says: its first line, then a line for each frame.
-mod text;
-
-use crate::text::Text;
 use libc::STDIN_FILENO;
+use libc::STDOUT_FILENO;
 use log::Checked;
 use player::Player;
 use refusal::Refusal;
+use report::progress;
+use report::sum;
+use report::text;
 
 // A log of any length is listed in plays of at most this many frames, and their cycles.
 const FRAMES: u32 = 1024;
 
 const SPAN: u32 = 480 * FRAMES;
 
-// The player, and the place of the next byte of text.
+// A line has at most 31 bytes; behind this place the buffer has fewer than 64 left.
+const FULL: usize = 65_536 - 64;
+
+// The player, the place of the next byte of text, and the hundredths that were told last.
 struct Listing {
     player: Player,
     at: usize,
+    told: u32,
 }
 
-// A side is never below 0.
-fn side(value: i16) -> u64 {
-    if value < 0 {
-        return 0;
+// Of a place past the buffer's end, which no function here answers, nothing.
+fn write_out(out: &[u8], at: usize) {
+    if at <= out.len() {
+        io::write_all(STDOUT_FILENO, &out[..at]);
     }
-    value as u64
+}
+
+// Where the next line goes: to the start when little room is left, after what there is was written out. A listing has millions of
+// lines, and a write for each would be slow.
+fn line_start(out: &[u8], at: usize) -> usize {
+    if at <= FULL {
+        return at;
+    }
+    write_out(out, at);
+    0
+}
+
+fn field(out: &mut [u8], at: usize, name: &[u8], n: u64) -> usize {
+    let a = text::words(out, at, name);
+    text::number(out, a, n)
 }
 
 // Number, cycle, left, right. Power-on has output counter 0, so frame n is made at cycle 480 × n.
-fn line(out: &mut Text, at: usize, n: u64, cycle: u64, left: i16, right: i16) -> usize {
-    let a = text::number(out, at, n);
-    let b = text::words(out, a, b" ");
-    let c = text::number(out, b, cycle);
-    let d = text::words(out, c, b" ");
-    let e = text::number(out, d, side(left));
-    let f = text::words(out, e, b" ");
-    let g = text::number(out, f, side(right));
-    text::words(out, g, b"\n")
+fn line(out: &mut [u8], at: usize, n: u64, cycle: u64, left: i16, right: i16) -> usize {
+    let start = line_start(out, at);
+    let a = text::number(out, start, n);
+    let b = field(out, a, b" ", cycle);
+    let c = field(out, b, b" ", sum::side(left) as u64);
+    let d = field(out, c, b" ", sum::side(right) as u64);
+    text::words(out, d, b"\n")
 }
 
 // A line for each frame that a play made, behind the `before` frames of the plays before it. No play here makes more than FRAMES;
 // the test says so to the checker.
-fn lines(out: &mut Text, at: usize, before: u32, sides: &[i16; 2048], made: u32) -> usize {
+fn lines(out: &mut [u8], at: usize, before: u32, sides: &[i16; 2048], made: u32) -> usize {
     let end = if made < FRAMES { made } else { FRAMES };
     let mut next = at;
     let mut i: u32 = 0;
@@ -53,53 +70,62 @@ fn lines(out: &mut Text, at: usize, before: u32, sides: &[i16; 2048], made: u32)
     next
 }
 
-// n cycles, at most a span and not beyond L: so the play is never refused.
-fn play(l: Listing, n: u32, log: &[u8], out: &mut Text) -> Listing {
+// Not where the lines go to a terminal: the two would mix.
+fn shown(last: u32, done: u32, all: u32) -> u32 {
+    if libc::isatty(STDOUT_FILENO) == 1 {
+        return last;
+    }
+    progress::show(last, done, all)
+}
+
+// n of a log's cycles, at most a span and not beyond its end: so the play is never refused.
+fn play(l: Listing, n: u32, log: &[u8], cycles: u32, out: &mut [u8]) -> Listing {
     let mut sides = [0i16; 2048];
     let p = l.player;
     let r = player::play(p, n, log, &mut sides);
     let at = lines(out, l.at, p.cycle / 480, &sides, r.frames);
     let q = r.player;
-    Listing { player: q, at: at }
+    Listing {
+        player: q,
+        at: at,
+        told: shown(l.told, q.cycle, cycles),
+    }
 }
 
-fn frames(out: &mut Text, at: usize, log: &[u8], cycles: u32) -> usize {
+// A log of one span is done before there is anything to tell: hence the 100 at first.
+fn frames(out: &mut [u8], at: usize, log: &[u8], cycles: u32) -> usize {
     let t = player::open(log);
     let p = t.player;
-    let mut l = Listing { player: p, at: at };
+    let mut l = Listing {
+        player: p,
+        at: at,
+        told: 100,
+    };
     let spans = cycles / SPAN;
     let mut i = 0;
     while i < spans {
-        l = play(l, SPAN, log, out);
+        l = play(l, SPAN, log, cycles, out);
         i += 1;
     }
-    let last = play(l, cycles % SPAN, log, out);
+    let last = play(l, cycles % SPAN, log, cycles, out);
     last.at
 }
 
 // Edition, entries, cycles, frames.
-fn heading(out: &mut Text, log: &[u8], count: u32, cycles: u32) -> usize {
-    let a = text::words(out, 0, b"log ");
-    let b = text::number(out, a, little::u16_at(log, 0) as u64);
-    let c = text::words(out, b, b" entries ");
-    let d = text::number(out, c, count as u64);
-    let e = text::words(out, d, b" cycles ");
-    let f = text::number(out, e, cycles as u64);
-    let g = text::words(out, f, b" frames ");
-    let h = text::number(out, g, (cycles / 480) as u64);
-    text::words(out, h, b"\n")
-}
-
-// "A refusal prints `refused` with number and carried value, 0 where none is carried."
-fn refused(out: &mut Text, why: Refusal) -> usize {
-    let a = text::words(out, 0, b"refused ");
-    let b = text::number(out, a, refusal::number(why) as u64);
-    let c = text::words(out, b, b" ");
-    let d = text::number(out, c, refusal::carried(why) as u64);
+fn heading(out: &mut [u8], log: &[u8], count: u32, cycles: u32) -> usize {
+    let a = field(out, 0, b"log ", little::u16_at(log, 0) as u64);
+    let b = field(out, a, b" entries ", count as u64);
+    let c = field(out, b, b" cycles ", cycles as u64);
+    let d = field(out, c, b" frames ", (cycles / 480) as u64);
     text::words(out, d, b"\n")
 }
 
-fn list(out: &mut Text, log: &[u8]) -> usize {
+fn refused(out: &mut [u8], why: Refusal) -> usize {
+    let a = text::refused(out, 0, why);
+    text::words(out, a, b"\n")
+}
+
+fn list(out: &mut [u8], log: &[u8]) -> usize {
     let c = log::check_log(log);
     match c {
         Checked::Log { count, cycles } => {
@@ -111,7 +137,7 @@ fn list(out: &mut Text, log: &[u8]) -> usize {
 }
 
 // The input has room for one byte more than a log may have, so that a longer one shows.
-fn listed(out: &mut Text) -> usize {
+fn listed(out: &mut [u8]) -> usize {
     let mut space = [0u8; 65537];
     let size = io::read_full(STDIN_FILENO, &mut space);
     if size > 65_536 {
@@ -120,8 +146,12 @@ fn listed(out: &mut Text) -> usize {
     list(out, &space[..size])
 }
 
+fn run(out: &mut [u8]) {
+    let at = listed(out);
+    write_out(out, at);
+}
+
 fn main() {
     let mut out = io::large_buffer();
-    let at = listed(&mut out);
-    text::finish(&out, at);
+    run(&mut out);
 }

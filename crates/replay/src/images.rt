@@ -1,12 +1,12 @@
 // The ops on images: the present state's, with and without a byte set, and any bytes read as one.
-use crate::digest;
-use crate::report;
-use crate::report::Replay;
+use crate::standing;
+use crate::standing::Replay;
 use image::read_image;
 use image::write_image;
 use libc::STDIN_FILENO;
 use little::Width;
 use refusal::Answer;
+use report::sum::of_bytes;
 use vsu::core;
 use vsu::core::Vsu;
 
@@ -31,7 +31,7 @@ fn said(a: Answer) -> Numbers {
 
 // The image of a state, into `out`; the refusal's number.
 fn image_of(u: Vsu, out: &mut [u8]) -> u32 {
-    report::refused(write_image(u, out))
+    standing::refused(write_image(u, out))
 }
 
 // The first place at which the bytes differ; the end where they do not.
@@ -49,7 +49,7 @@ fn first_difference(expected: &[u8], got: &[u8]) -> usize {
 fn same(r: Replay, what: &[u8], which: &[u8], expected: &[u8], got: &[u8]) -> Replay {
     let at = first_difference(expected, got);
     if at < expected.len() {
-        return report::differs_at(
+        return standing::differs_at(
             r,
             what,
             which,
@@ -66,14 +66,14 @@ fn held(r: Replay, what: &[u8], which: &[u8], expected: &[u8], u: Vsu) -> Replay
     let mut b = [0u8; 420];
     let why = image_of(u, &mut b);
     if why != 0 {
-        return report::differs_in(r, what, b"refused", 0, why);
+        return standing::differs_in(r, what, b"refused", 0, why);
     }
     same(r, what, which, expected, &b)
 }
 
 fn check(r: Replay) -> Replay {
     if r.going {
-        return report::checked(r);
+        return standing::checked(r);
     }
     r
 }
@@ -81,41 +81,41 @@ fn check(r: Replay) -> Replay {
 pub fn load(r: Replay) -> Replay {
     let mut b = [0u8; 420];
     if io::read_full(STDIN_FILENO, &mut b) < 420 {
-        return report::cut_short(r);
+        return standing::cut_short(r);
     }
     let m = read_image(&b);
     let a = m.answer;
-    let why = report::refused(a);
+    let why = standing::refused(a);
     if why != 0 {
-        return report::differs(r, b"L refused", 0, why);
+        return standing::differs(r, b"L refused", 0, why);
     }
     let u = m.state;
-    report::begin(r, u)
+    standing::begin(r, u)
 }
 
 pub fn state(r: Replay) -> Replay {
     let mut b = [0u8; 4];
     if io::read_full(STDIN_FILENO, &mut b) < 4 {
-        return report::cut_short(r);
+        return standing::cut_short(r);
     }
     let mut bytes = [0u8; 420];
     let u = r.unit;
     let why = image_of(u, &mut bytes);
     if why != 0 {
-        return report::differs(r, b"S refused", 0, why);
+        return standing::differs(r, b"S refused", 0, why);
     }
     let expected = little::u32_at(&b, 0);
-    let got = digest::bytes(&bytes);
+    let got = of_bytes(&bytes);
     if got != expected {
-        return report::differs(r, b"S sum", expected, got);
+        return standing::differs(r, b"S sum", expected, got);
     }
-    report::checked(r)
+    standing::checked(r)
 }
 
 pub fn whole(r: Replay) -> Replay {
     let mut b = [0u8; 420];
     if io::read_full(STDIN_FILENO, &mut b) < 420 {
-        return report::cut_short(r);
+        return standing::cut_short(r);
     }
     let u = r.unit;
     check(held(r, b"I", b"image", &b, u))
@@ -127,7 +127,7 @@ fn handed_back(r: Replay, what: &[u8], u: Vsu) -> Replay {
     let p = core::new();
     let why = image_of(p, &mut b);
     if why != 0 {
-        return report::differs_in(r, what, b"refused", 0, why);
+        return standing::differs_in(r, what, b"refused", 0, why);
     }
     held(r, what, b"handed back", &b, u)
 }
@@ -138,10 +138,10 @@ fn read(r: Replay, what: &[u8], bytes: &[u8], expected: Numbers) -> Replay {
     let a = m.answer;
     let got = said(a);
     if got.number != expected.number {
-        return report::differs_in(r, what, b"number", expected.number, got.number);
+        return standing::differs_in(r, what, b"number", expected.number, got.number);
     }
     if got.carried != expected.carried {
-        return report::differs_in(r, what, b"carried", expected.carried, got.carried);
+        return standing::differs_in(r, what, b"carried", expected.carried, got.carried);
     }
     let u = m.state;
     if got.number == 0 {
@@ -164,10 +164,10 @@ fn with_byte(r: Replay, at: usize, value: u8, expected: Numbers) -> Replay {
     let u = r.unit;
     let why = image_of(u, &mut b);
     if why != 0 {
-        return report::differs(r, b"B refused", 0, why);
+        return standing::differs(r, b"B refused", 0, why);
     }
     if at >= 420 {
-        return report::broken(r, b"B is past the end");
+        return standing::broken(r, b"B is past the end");
     }
     b[at] = value;
     read(r, b"B", &b, expected)
@@ -176,7 +176,7 @@ fn with_byte(r: Replay, at: usize, value: u8, expected: Numbers) -> Replay {
 pub fn byte(r: Replay) -> Replay {
     let mut b = [0u8; 6];
     if io::read_full(STDIN_FILENO, &mut b) < 6 {
-        return report::cut_short(r);
+        return standing::cut_short(r);
     }
     let at = little::u16_at(&b, 0) as usize;
     with_byte(r, at, little::byte_at(&b, 2), answer_at(&b, 3))
@@ -185,17 +185,17 @@ pub fn byte(r: Replay) -> Replay {
 fn answered(r: Replay, bytes: &[u8]) -> Replay {
     let mut b = [0u8; 3];
     if io::read_full(STDIN_FILENO, &mut b) < 3 {
-        return report::cut_short(r);
+        return standing::cut_short(r);
     }
     read(r, b"D", bytes, answer_at(&b, 0))
 }
 
 fn sized(r: Replay, end: usize, space: &mut [u8]) -> Replay {
     if end > space.len() {
-        return report::broken(r, b"D is too long");
+        return standing::broken(r, b"D is too long");
     }
     if io::read_full(STDIN_FILENO, &mut space[..end]) < end {
-        return report::cut_short(r);
+        return standing::cut_short(r);
     }
     answered(r, &space[..end])
 }
@@ -203,7 +203,7 @@ fn sized(r: Replay, end: usize, space: &mut [u8]) -> Replay {
 pub fn bytes(r: Replay) -> Replay {
     let mut b = [0u8; 2];
     if io::read_full(STDIN_FILENO, &mut b) < 2 {
-        return report::cut_short(r);
+        return standing::cut_short(r);
     }
     let mut space = [0u8; 1024];
     sized(r, little::u16_at(&b, 0) as usize, &mut space)

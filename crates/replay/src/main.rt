@@ -1,20 +1,20 @@
 // Replays a stream of the oracle (oracle/README.md) on the unit and its image, through their public calls. Prints one line: that
 // all agreed, or what differs first.
-mod digest;
 mod images;
-mod report;
+mod standing;
 
-use crate::report::Replay;
+use crate::standing::Replay;
 use libc::STDIN_FILENO;
+use report::sum::of_frames;
 use vsu::core;
 
 fn write_to(r: Replay, address: u32, byte: u8) -> Replay {
     let u = r.unit;
     let m = core::write(u, address, byte);
     let a = m.answer;
-    let why = report::refused(a);
+    let why = standing::refused(a);
     if why != 0 {
-        return report::differs(r, b"W refused", 0, why);
+        return standing::differs(r, b"W refused", 0, why);
     }
     let v = m.state;
     let mut t = r;
@@ -25,7 +25,7 @@ fn write_to(r: Replay, address: u32, byte: u8) -> Replay {
 fn write(r: Replay) -> Replay {
     let mut b = [0u8; 5];
     if io::read_full(STDIN_FILENO, &mut b) < 5 {
-        return report::cut_short(r);
+        return standing::cut_short(r);
     }
     write_to(r, little::u32_at(&b, 0), little::byte_at(&b, 4))
 }
@@ -35,25 +35,25 @@ fn run_for(r: Replay, n: u32, frames: u32, sum: u32, out: &mut [i16; 8192]) -> R
     let u = r.unit;
     let m = core::run(u, n, out);
     let a = m.answer;
-    let why = report::refused(a);
+    let why = standing::refused(a);
     if why != 0 {
-        return report::differs(r, b"R refused", 0, why);
+        return standing::differs(r, b"R refused", 0, why);
     }
     if m.frames != frames {
-        return report::differs(r, b"R frames", frames, m.frames);
+        return standing::differs(r, b"R frames", frames, m.frames);
     }
-    let got = digest::frames(out, m.frames);
+    let got = of_frames(0, out, m.frames);
     if got != sum {
-        return report::differs(r, b"R sum", sum, got);
+        return standing::differs(r, b"R sum", sum, got);
     }
     let v = m.state;
-    report::checked(report::ran(r, v, n))
+    standing::checked(standing::ran(r, v, n))
 }
 
 fn run(r: Replay, out: &mut [i16; 8192]) -> Replay {
     let mut b = [0u8; 12];
     if io::read_full(STDIN_FILENO, &mut b) < 12 {
-        return report::cut_short(r);
+        return standing::cut_short(r);
     }
     let n = little::u32_at(&b, 0);
     let frames = little::u32_at(&b, 4);
@@ -65,25 +65,25 @@ fn advance_by(r: Replay, n: u32) -> Replay {
     let u = r.unit;
     let m = core::advance(u, n);
     let a = m.answer;
-    let why = report::refused(a);
+    let why = standing::refused(a);
     if why != 0 {
-        return report::differs(r, b"A refused", 0, why);
+        return standing::differs(r, b"A refused", 0, why);
     }
     let v = m.state;
-    report::ran(r, v, n)
+    standing::ran(r, v, n)
 }
 
 fn advance(r: Replay) -> Replay {
     let mut b = [0u8; 4];
     if io::read_full(STDIN_FILENO, &mut b) < 4 {
-        return report::cut_short(r);
+        return standing::cut_short(r);
     }
     advance_by(r, little::u32_at(&b, 0))
 }
 
 fn op(r: Replay, letter: u8, out: &mut [i16; 8192]) -> Replay {
     match letter {
-        b'P' => report::begin(r, core::new()),
+        b'P' => standing::begin(r, core::new()),
         b'L' => images::load(r),
         b'W' => write(r),
         b'R' => run(r, out),
@@ -92,15 +92,15 @@ fn op(r: Replay, letter: u8, out: &mut [i16; 8192]) -> Replay {
         b'I' => images::whole(r),
         b'B' => images::byte(r),
         b'D' => images::bytes(r),
-        b'E' => report::agreed(r),
-        _ => report::broken(r, b"is no op"),
+        b'E' => standing::agreed(r),
+        _ => standing::broken(r, b"is no op"),
     }
 }
 
 fn next(r: Replay, out: &mut [i16; 8192]) -> Replay {
     let mut letter = [0u8; 1];
     if io::read_full(STDIN_FILENO, &mut letter) < 1 {
-        return report::cut_short(r);
+        return standing::cut_short(r);
     }
     let mut t = op(r, little::byte_at(&letter, 0), out);
     t.op = std::num::wrapping_add_u64(t.op, 1);
@@ -110,7 +110,7 @@ fn next(r: Replay, out: &mut [i16; 8192]) -> Replay {
 // A proved loop has to end, and nothing says that a stream does: so the turns are counted down, from a number that no run uses up.
 fn main() {
     let mut out = [0i16; 8192];
-    let mut r = report::start();
+    let mut r = standing::start();
     let mut turns = u64::MAX;
     while turns > 0 {
         if !r.going {

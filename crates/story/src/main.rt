@@ -11,10 +11,10 @@ use player::play;
 use player::seek;
 use player::set_free;
 use refusal::Answer;
+use report::sum::of_frames;
 use voice::channel_enum::Kind;
 use vsu::core;
 use vsu::core::Vsu;
-ghost use Prim.Native.Nat.{_≤_};
 
 // A record and the sum of the frames that were played to come to it.
 struct Heard {
@@ -29,35 +29,6 @@ fn text(t: &[u8]) {
 
 fn number(n: u32) {
     io::print_decimal(STDOUT_FILENO, n as u64);
-}
-
-// A side is never below 0.
-fn side(value: i16) -> u32 {
-    if value < 0 {
-        return 0;
-    }
-    value as u32
-}
-
-fn fold(sum: u32, value: u32) -> u32 {
-    ((sum as u64 * 31 + value as u64) % 1_000_000_007) as u32
-}
-
-fn least(a: usize, b: usize) -> usize
-    ensures { λ r. ⌜ r ≤ b ⌝ }
-{
-    if a < b { a } else { b }
-}
-
-fn folded(start: u32, out: &[i16], made: u32) -> u32 {
-    let end = least(made as usize * 2, out.len());
-    let mut sum = start;
-    let mut i = 0;
-    while i < end {
-        sum = fold(sum, side(out[i]));
-        i += 1;
-    }
-    sum
 }
 
 fn from(p: Player) -> Heard {
@@ -91,7 +62,7 @@ fn on(h: Heard, n: u32, log: &[u8]) -> Heard {
     Heard {
         player: q,
         frames: std::num::wrapping_add_u32(h.frames, r.frames),
-        sum: folded(h.sum, &out, r.frames),
+        sum: of_frames(h.sum, &out, r.frames),
     }
 }
 

@@ -1,11 +1,13 @@
 -- Span after span, then what is left.
+use mathlib.Core.Path.{_≡_}
 use borrow.Author.Needs.{needs}
+use lib.ListN.{length}
 use Prim.Native.Nat.{_-_}
 use Rattle.lister.proofs.frames.Statement.{statement}
 use Rattle.lister.proofs.frames.Tie as tie
 
 abbrev Inv-loop : tie.InvT-loop
-Inv-loop out₀ at log cycles l₀ spans i₀ out l i = Unit {0}
+Inv-loop out₀ at log cycles l₀ spans i₀ out l i = length out ≡ length out₀
 
 abbrev μ-loop : tie.MeasureT-loop
 μ-loop out₀ at log cycles l₀ spans i₀ out l i = spans - i
@@ -31,6 +33,9 @@ loop-again c = search needs
 play-requires-2 : tie.Need-play-requires-2 Inv-loop μ-loop
 play-requires-2 c κs = search needs
 
+same-length : tie.Need-same-length Inv-loop μ-loop
+same-length c = search needs
+
 returns : tie.Need-returns Inv-loop μ-loop
 returns c = search needs
 
@@ -47,4 +52,5 @@ frames-spec =
     loop-less
     loop-again
     play-requires-2
+    same-length
     returns)

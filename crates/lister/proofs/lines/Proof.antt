@@ -1,19 +1,21 @@
 -- At most as many frames as the buffer has.
 use native.Mathlib.Omega.{arith}
 use mathlib.Core.Logic.{⊎-elim}
+use mathlib.Core.Path.{_≡_}
 use borrow.Author.Needs.{needs}
+use lib.ListN.{length}
 use Prim.Native.Nat.{_-_, _≤_}
 use Rattle.lister.proofs.lines.Statement.{statement}
 use Rattle.lister.proofs.lines.Tie as tie
 
 abbrev Inv-loop : tie.InvT-loop
-Inv-loop out₀ at before sides made end next₀ i₀ out next i = end ≤ 1024
+Inv-loop out₀ at before sides made end next₀ i₀ out next i = (end ≤ 1024) × (length out ≡ length out₀)
 
 abbrev μ-loop : tie.MeasureT-loop
 μ-loop out₀ at before sides made end next₀ i₀ out next i = end - i
 
 loop-holds : tie.Need-loop-holds Inv-loop μ-loop
-loop-holds c = ⊎-elim (λ w. omega arith) (λ w. omega arith) (c .if1 .came)
+loop-holds c = (⊎-elim (λ w. omega arith) (λ w. omega arith) (c .if1 .came), search needs)
 
 cast-n : tie.Need-cast-n Inv-loop μ-loop
 cast-n c = search needs
@@ -60,6 +62,9 @@ loop-less c = search needs
 loop-again : tie.Need-loop-again Inv-loop μ-loop
 loop-again c = search needs
 
+same-length : tie.Need-same-length Inv-loop μ-loop
+same-length c = search needs
+
 returns : tie.Need-returns Inv-loop μ-loop
 returns c = search needs
 
@@ -85,4 +90,5 @@ lines-spec =
     add-i
     loop-less
     loop-again
+    same-length
     returns)

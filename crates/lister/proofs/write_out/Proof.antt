@@ -2,8 +2,8 @@
 use lib.Seq.{length-take-le}
 use mathlib.Core.Path.{sym}
 use borrow.Author.Needs.{needs}
-use Rattle.lister.proofs.text.front.Statement.{statement}
-use Rattle.lister.proofs.text.front.Tie as tie
+use Rattle.lister.proofs.write_out.Statement.{statement}
+use Rattle.lister.proofs.write_out.Tie as tie
 
 slice-aggregate-write-all : tie.Need-slice-aggregate-write-all
 slice-aggregate-write-all c = sym (length-take-le _ _ (search needs))
@@ -17,5 +17,5 @@ returns c = search needs
 returns-2 : tie.Need-returns-2
 returns-2 c = search needs
 
-pub front-spec : {M : Type 1} → statement M
-front-spec = tie.close (tie.spec slice-aggregate-write-all write-all-requires returns returns-2)
+pub write-out-spec : {M : Type 1} → statement M
+write-out-spec = tie.close (tie.spec slice-aggregate-write-all write-all-requires returns returns-2)
