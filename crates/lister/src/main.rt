@@ -2,11 +2,15 @@
 use libc::STDIN_FILENO;
 use libc::STDOUT_FILENO;
 use log::Checked;
+use log::Read;
+use log::reader;
 use player::Player;
 use refusal::Refusal;
 use report::progress;
 use report::sum;
 use report::text;
+ghost use mathlib.Core.Path.{_≡_};
+ghost use Rattle.log.specs.Log.{entriesIn};
 
 // A log of any length is listed in plays of at most this many frames, and their cycles.
 const FRAMES: u32 = 1024;
@@ -125,11 +129,32 @@ fn refused(out: &mut [u8], why: Refusal) -> usize {
     text::words(out, a, b"\n")
 }
 
+// The entries of the log, read one after another until none is left.
+fn entries(log: &[u8], checked: Checked) -> u32
+    ensures { λ r. ⌜ r ≡ entriesIn checked ⌝ }
+{
+    let mut at: u32 = 0;
+    loop {
+        let s = reader::read_on(log, checked, at);
+        let read = s.read;
+        match read {
+            Read::Write(_) => {}
+            Read::Ended => {
+                return at;
+            }
+            Read::Refused(_) => {
+                return at;
+            }
+        }
+        at = s.at;
+    }
+}
+
 fn list(out: &mut [u8], log: &[u8]) -> usize {
     let c = log::check_log(log);
     match c {
-        Checked::Log { count, cycles } => {
-            let at = heading(out, log, count, cycles);
+        Checked::Log { count: _, cycles } => {
+            let at = heading(out, log, entries(log, c), cycles);
             frames(out, at, log, cycles)
         }
         Checked::Refused(why) => refused(out, why),

@@ -1,2 +1,4 @@
 pub mod LogLaws
 pub mod AcceptedLaws
+pub mod ReaderLaws
+pub mod ReaderWalks

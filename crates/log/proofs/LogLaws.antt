@@ -1,19 +1,20 @@
 -- Laws of specs/Log.antt.
-use Prim.Native.Nat.{ℕ, zero, suc, _+_, _-_, _*_, _<_, _≤_}
+use Prim.Native.Nat.{ℕ, zero, suc, _+_, _-_, _<_, _≤_}
 use mathlib.Core.Path.{_≡_, refl, sym, ap, _∙_}
-use mathlib.Core.Bool.{Bool, true, false, cond, not, _&&_, _||_}
+use mathlib.Core.Bool.{Bool, true, false, cond, not, _||_}
 use mathlib.Core.List.{List, [], _∷_}
+use native.Mathlib.Nat.{add-zero}
 use native.Mathlib.Numerals.{add-one}
 use native.Mathlib.Omega.{arith}
 use borrow.Author.Tests.{lt-ltb, le-ltb, eq-eqb, ne-eqb}
 use lib.Dec.{eqb, leb, ltb}
 use lib.ListN.{getD, length}
-use Rattle.laws.proofs.Cases.{chosen, ways}
+use Rattle.laws.proofs.Cases.{chosen}
 use Rattle.little.specs.Little.{number}
 use Rattle.refusal.specs.Refusal.{numberOf, carriedOf}
 use Rattle.refusal.specs.declared.Refusal.{Refusal}
 use Rattle.refusal.specs.declared.Refusal.the-variants.{LogShort, LogEdition, LogHeader, LogCount, LogSize, LogEntry}
-use Rattle.log.specs.Log.{Layout, first, place, checkNumber, checkCarried, checkTold, checkedNumber, checkedCarried, countedNumber, countedCarried, readNumber, readCarried, scanTold, dueBefore, dueBeforeOf, countIn, entryIn, entryOf, writesFrom, checkOf, countOf, cyclesOf, dueAt, dueEarlier, editionOf, faulty, headerOf, offsetOf, scan, writeAt}
+use Rattle.log.specs.Log.{Layout, first, place, checkNumber, checkCarried, checkTold, checkedNumber, checkedCarried, countedNumber, countedCarried, readNumber, readCarried, scanTold, dueBefore, dueBeforeOf, countIn, entryIn, entryOf, handed, writesFrom, checkOf, countOf, cyclesOf, dueAt, dueEarlier, editionOf, faulty, headerOf, offsetOf, scan, writeAt}
 use Rattle.log.specs.declared.Checked.{Checked}
 use Rattle.log.specs.declared.Checked.the-variants as checked
 use Rattle.log.specs.declared.Counted.{Counted}
@@ -107,20 +108,35 @@ unfolding dueEarlier
 earlier-of b zero n e = absurd (n refl)
 earlier-of b (suc i) n e = e ∙ ap (dueAt first b) (omega arith)
 
--- the answers of the calls that check first
+-- what stands at a place of the writes
+
+module _ (l : Layout) (b : List ℕ) where
+  pub handed-in : (n i j : ℕ) → j < n → handed (writesFrom l b n i) j ≡ entries.Write (writeAt l b (i + j))
+  unfolding handed writesFrom
+  handed-in zero i j h = absurd (omega arith)
+  handed-in (suc n) i zero h = ap (λ (k : ℕ). entries.Write (writeAt l b k)) (sym (add-zero i))
+  handed-in (suc n) i (suc j) h = handed-in n (suc i) j (omega arith) ∙ ap (λ (k : ℕ). entries.Write (writeAt l b k)) (omega arith)
+
+  pub handed-past : (n i j : ℕ) → n ≤ j → handed (writesFrom l b n i) j ≡ entries.Ended
+  unfolding handed writesFrom
+  handed-past zero i j h = refl
+  handed-past (suc n) i zero h = absurd (omega arith)
+  handed-past (suc n) i (suc j) h = handed-past n (suc i) j (omega arith)
+
+-- the answers by a check's answer
 
 module _ {c : Checked} (b : List ℕ) where
-  pub entry-read : {count cycles i : ℕ} {w : Write} → c ≡ checkOf first b → c ≡ checked.Log count cycles → i < count → w ≡ writeAt first b i → entries.Write w ≡ entryOf first b i
+  pub entry-read : {count cycles i : ℕ} {w : Write} → c ≡ checked.Log count cycles → i < count → w ≡ writeAt first b i → entries.Write w ≡ entryIn first c b i
   unfolding entryIn
-  entry-read {i = i} p q h e = rw (← p, q, lt-ltb _ _ h, e)
+  entry-read {i = i} q h e = rw (q, handed-in first b _ 0 i h, e) (ap (λ (k : ℕ). entries.Write (writeAt first b k)) (omega arith))
 
-  pub entry-ended : {count cycles i : ℕ} → c ≡ checkOf first b → c ≡ checked.Log count cycles → count ≤ i → entries.Ended ≡ entryOf first b i
+  pub entry-ended : {count cycles i : ℕ} → c ≡ checked.Log count cycles → count ≤ i → entries.Ended ≡ entryIn first c b i
   unfolding entryIn
-  entry-ended p q h = rw (← p, q, le-ltb _ _ h)
+  entry-ended {i = i} q h = rw (q, handed-past first b _ 0 i h)
 
-  pub entry-refused : {why : Refusal} (i : ℕ) → c ≡ checkOf first b → c ≡ checked.Refused why → entries.Refused why ≡ entryOf first b i
+  pub entry-refused : {why : Refusal} (i : ℕ) → c ≡ checked.Refused why → entries.Refused why ≡ entryIn first c b i
   unfolding entryIn
-  entry-refused i p q = rw (← p, q)
+  entry-refused i q = rw q
 
   pub counted-in : {count cycles n : ℕ} (cycle : ℕ) → c ≡ checkOf first b → c ≡ checked.Log count cycles → n ≡ dueBefore (writesFrom first b count 0) cycle → counts.Number n ≡ dueBeforeOf first b cycle
   unfolding countIn
@@ -162,14 +178,22 @@ module _ (l : Layout) (b : List ℕ) where
   numbered e = (e, (ap checkedNumber e ∙ check-number, ap checkedCarried e ∙ check-carried))
 
   read-told : (c : Checked) (i : ℕ) → (readNumber (entryIn l c b i) ≡ checkedNumber c) × (readCarried (entryIn l c b i) ≡ checkedCarried c)
-  unfolding entryIn
-  read-told (checked.Log count cycles) i =
-      ways (λ (r : Read). (readNumber r ≡ 0) × (readCarried r ≡ 0)) (ltb i count) (λ _. (refl, refl)) (λ _. (refl, refl))
+  unfolding entryIn handed
+  read-told (checked.Log count cycles) i = none (writesFrom l b count 0) i
+    where
+      none : (ws : List Write) (j : ℕ) → (readNumber (handed ws j) ≡ 0) × (readCarried (handed ws j) ≡ 0)
+      none [] j = (refl, refl)
+      none (w ∷ ws) zero = (refl, refl)
+      none (w ∷ ws) (suc j) = none ws j
   read-told (checked.Refused why) i = (refl, refl)
 
-  pub read-numbered : {r : Read} (i : ℕ) → r ≡ entryOf l b i → (r ≡ entryOf l b i) × ((readNumber r ≡ checkNumber l b) × (readCarried r ≡ checkCarried l b))
-  read-numbered i e =
-      let t = read-told (checkOf l b) i in (e, (ap readNumber e ∙ t .0 ∙ check-number, ap readCarried e ∙ t .1 ∙ check-carried))
+  pub read-numbered : (c : Checked) (i : ℕ) {r : Read} → r ≡ entryIn l c b i → (r ≡ entryIn l c b i) × (readNumber r ≡ checkedNumber c) × (readCarried r ≡ checkedCarried c)
+  read-numbered c i e = let t = read-told c i in (e, ap readNumber e ∙ t .0, ap readCarried e ∙ t .1)
+
+  pub read-of : {c : Checked} (i : ℕ) {r : Read} → c ≡ checkOf l b → r ≡ entryIn l c b i → (r ≡ entryOf l b i) × ((readNumber r ≡ checkNumber l b) × (readCarried r ≡ checkCarried l b))
+  read-of {c} i p e =
+      let t = read-told c i in
+      (e ∙ ap (λ (x : Checked). entryIn l x b i) p, (ap readNumber e ∙ t .0 ∙ ap checkedNumber p ∙ check-number, ap readCarried e ∙ t .1 ∙ ap checkedCarried p ∙ check-carried))
 
   counted-told : (c : Checked) (cycle : ℕ) → (countedNumber (countIn l c b cycle) ≡ checkedNumber c) × (countedCarried (countIn l c b cycle) ≡ checkedCarried c)
   unfolding countIn

@@ -129,8 +129,14 @@ dueBefore (w ∷ ws) cycle = cond (ltb (w .due) cycle) 1 0 + dueBefore ws cycle
 
 -- "Reading a log entry past the last answers that the log has ended."; bytes that are no log are refused
 
+-- the write at a place of a list, or that the list has ended
+unfoldable pub handed : List Write → ℕ → Read
+handed [] i = entries.Ended
+handed (w ∷ ws) zero = entries.Write w
+handed (w ∷ ws) (suc i) = handed ws i
+
 unfoldable pub entryIn : Layout → Checked → List ℕ → ℕ → Read
-entryIn l (checked.Log count cycles) b i = cond (ltb i count) (entries.Write (writeAt l b i)) entries.Ended
+entryIn l (checked.Log count cycles) b i = handed (writesFrom l b count 0) i
 entryIn l (checked.Refused why) b i = entries.Refused why
 
 abbrev pub entryOf : Layout → List ℕ → ℕ → Read
@@ -166,3 +172,18 @@ countedCarried (counted.Refused why) = carriedOf why
 unfoldable pub standsAt : Layout → List ℕ → ℕ → ℕ → ℕ → Bool
 standsAt l b count cycle k =
     leb k count && (eqb k 0 || ltb (dueEarlier l b k) cycle) && (leb count k || leb cycle (dueAt l b k))
+
+-- A reader's place after a read: one on where it stands at an entry, else the same.
+unfoldable pub placeAfter : Checked → ℕ → ℕ
+placeAfter (checked.Log count cycles) i = cond (ltb i count) (suc i) i
+placeAfter (checked.Refused why) i = i
+
+-- its place after k reads from the first entry on
+unfoldable pub placeOn : Checked → ℕ → ℕ
+placeOn c zero = 0
+placeOn c (suc k) = placeAfter c (placeOn c k)
+
+-- how many entries it has to hand out
+abbrev pub entriesIn : Checked → ℕ
+entriesIn (checked.Log count cycles) = count
+entriesIn (checked.Refused why) = 0

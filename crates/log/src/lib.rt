@@ -1,4 +1,6 @@
 // The register log: bytes checked once, and read as writes.
+pub mod reader;
+
 use refusal::Refusal;
 ghost use mathlib.Core.Path.{_≡_};
 ghost use mathlib.Core.Bool.{true};
@@ -6,7 +8,7 @@ ghost use Prim.Native.Nat.{ℕ, _+_, _<_, _≤_};
 ghost use lib.Dec.{eqb};
 ghost use lib.ListN.{length};
 ghost use Rattle.little.specs.Little.{number};
-ghost use Rattle.log.specs.Log.{first, place, checkOf, scan, writeAt, dueAt, dueBefore, writesFrom, entryOf, dueBeforeOf, dueEarlier, standsAt, checkedNumber, checkedCarried, checkNumber, checkCarried, readNumber, readCarried, countedNumber, countedCarried};
+ghost use Rattle.log.specs.Log.{first, place, checkOf, scan, writeAt, dueAt, dueBefore, writesFrom, entryIn, entryOf, dueBeforeOf, dueEarlier, standsAt, checkedNumber, checkedCarried, checkNumber, checkCarried, readNumber, readCarried, countedNumber, countedCarried};
 
 pub struct Write {
     pub due: u32,
@@ -121,14 +123,11 @@ pub fn check_log(log: &[u8]) -> Checked
     check_entries(log, count, little::u32_at(log, 12))
 }
 
-// The write of an entry, or that the log has ended.
-pub fn entry(log: &[u8], index: u32) -> Read
-    ensures { λ r. ⌜ r ≡ entryOf first (now (log .entry)) index ⌝ }
-    ensures { λ r. ⌜ readNumber r ≡ checkNumber first (now (log .entry)) ⌝ }
-    ensures { λ r. ⌜ readCarried r ≡ checkCarried first (now (log .entry)) ⌝ }
+// The write of an entry, or that the log has ended, by the answer of a check.
+pub fn entry_in(log: &[u8], checked: Checked, index: u32) -> Read
+    ensures { λ r. ⌜ (r ≡ entryIn first checked (now (log .entry)) index) × (readNumber r ≡ checkedNumber checked) × (readCarried r ≡ checkedCarried checked) ⌝ }
 {
-    let c = check_log(log);
-    match c {
+    match checked {
         Checked::Log { count, cycles: _ } => {
             if index < count {
                 return Read::Write(write_at(log, index));
@@ -137,6 +136,15 @@ pub fn entry(log: &[u8], index: u32) -> Read
         }
         Checked::Refused(why) => Read::Refused(why),
     }
+}
+
+// The same of any bytes, by a check of its own.
+pub fn entry(log: &[u8], index: u32) -> Read
+    ensures { λ r. ⌜ r ≡ entryOf first (now (log .entry)) index ⌝ }
+    ensures { λ r. ⌜ readNumber r ≡ checkNumber first (now (log .entry)) ⌝ }
+    ensures { λ r. ⌜ readCarried r ≡ checkCarried first (now (log .entry)) ⌝ }
+{
+    entry_in(log, check_log(log), index)
 }
 
 fn count_due(log: &[u8], count: u32, cycle: u32) -> u32
