@@ -44,18 +44,13 @@ fn line_start(out: &[u8], at: usize) -> usize {
     0
 }
 
-fn field(out: &mut [u8], at: usize, name: &[u8], n: u64) -> usize {
-    let a = text::words(out, at, name);
-    text::number(out, a, n)
-}
-
 // Number, cycle, left, right. Power-on has output counter 0, so frame n is made at cycle 480 × n.
 fn line(out: &mut [u8], at: usize, n: u64, cycle: u64, left: i16, right: i16) -> usize {
     let start = line_start(out, at);
     let a = text::number(out, start, n);
-    let b = field(out, a, b" ", cycle);
-    let c = field(out, b, b" ", sum::side(left) as u64);
-    let d = field(out, c, b" ", sum::side(right) as u64);
+    let b = text::labelled(out, a, b" ", cycle);
+    let c = text::labelled(out, b, b" ", sum::side(left) as u64);
+    let d = text::labelled(out, c, b" ", sum::side(right) as u64);
     text::words(out, d, b"\n")
 }
 
@@ -117,10 +112,10 @@ fn frames(out: &mut [u8], at: usize, log: &[u8], cycles: u32) -> usize {
 
 // Edition, entries, cycles, frames.
 fn heading(out: &mut [u8], log: &[u8], count: u32, cycles: u32) -> usize {
-    let a = field(out, 0, b"log ", little::u16_at(log, 0) as u64);
-    let b = field(out, a, b" entries ", count as u64);
-    let c = field(out, b, b" cycles ", cycles as u64);
-    let d = field(out, c, b" frames ", (cycles / 480) as u64);
+    let a = text::labelled(out, 0, b"log ", little::u16_at(log, 0) as u64);
+    let b = text::labelled(out, a, b" entries ", count as u64);
+    let c = text::labelled(out, b, b" cycles ", cycles as u64);
+    let d = text::labelled(out, c, b" frames ", (cycles / 480) as u64);
     text::words(out, d, b"\n")
 }
 

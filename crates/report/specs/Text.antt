@@ -26,4 +26,4 @@ hexOf (b ∷ bs) = glyph (b / 16) ∷ glyph (b % 16) ∷ hexOf bs
 -- `refused`, a space, and the two numbers with a space between them
 abbrev pub refusedOf : ℕ → ℕ → List ℕ
 refusedOf number carried =
-    (114 ∷ 101 ∷ 102 ∷ 117 ∷ 115 ∷ 101 ∷ 100 ∷ 32 ∷ []) ++ (decimalOf number ++ ((32 ∷ []) ++ decimalOf carried))
+    ((114 ∷ 101 ∷ 102 ∷ 117 ∷ 115 ∷ 101 ∷ 100 ∷ 32 ∷ []) ++ decimalOf number) ++ ((32 ∷ []) ++ decimalOf carried)

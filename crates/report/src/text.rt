@@ -1,6 +1,7 @@
 // Text in a buffer of the caller's. Each function is given the place of the next byte and answers the one after what it laid; what
 // doesn't fit is left out.
 ghost use mathlib.Core.Path.{_≡_};
+ghost use mathlib.Core.List.{_++_};
 ghost use lib.ListN.{length};
 ghost use lib.Seq.{sets};
 ghost use Rattle.refusal.specs.Refusal.{numberOf, carriedOf};
@@ -33,6 +34,15 @@ pub fn number(out: &mut [u8], at: usize, n: u64) -> usize
     words(out, at, &digits[..k])
 }
 
+// A number behind its words.
+pub fn labelled(out: &mut [u8], at: usize, text: &[u8], n: u64) -> usize
+    ensures { λ r. ⌜ r ≡ after (length (now (out .entry))) at (length (now (text .entry) ++ decimalOf n)) ⌝ }
+    ensures { λ _. ⌜ now (out .exit) ≡ sets (now (out .entry)) at (now (text .entry) ++ decimalOf n) ⌝ }
+{
+    let a = words(out, at, text);
+    number(out, a, n)
+}
+
 // Two lower-case hex digits for each byte.
 pub fn hex(out: &mut [u8], at: usize, bytes: &[u8]) -> usize
     ensures { λ r. ⌜ r ≡ after (length (now (out .entry))) at (length (hexOf (now (bytes .entry)))) ⌝ }
@@ -54,8 +64,6 @@ pub fn refused(out: &mut [u8], at: usize, why: Refusal) -> usize
     ensures { λ r. ⌜ r ≡ after (length (now (out .entry))) at (length (refusedOf (numberOf why) (carriedOf why))) ⌝ }
     ensures { λ _. ⌜ now (out .exit) ≡ sets (now (out .entry)) at (refusedOf (numberOf why) (carriedOf why)) ⌝ }
 {
-    let a = words(out, at, b"refused ");
-    let b = number(out, a, refusal::number(why) as u64);
-    let c = words(out, b, b" ");
-    number(out, c, refusal::carried(why) as u64)
+    let a = labelled(out, at, b"refused ", refusal::number(why) as u64);
+    labelled(out, a, b" ", refusal::carried(why) as u64)
 }

@@ -1,13 +1,10 @@
 -- The space has as many bytes as it is made of.
 use borrow.Author.Needs.{needs}
 use Prim.Native.Nat.{ℕ}
-use mathlib.Core.Path.{_≡_, sym}
-use lib.ListN.{length, replicate, length-replicate}
+use mathlib.Core.Path.{sym}
+use lib.ListN.{length-replicate}
 use Rattle.drive.proofs.main.Statement.{statement}
 use Rattle.drive.proofs.main.Tie as tie
-
-counted : (n : ℕ) → n ≡ length {A = ℕ} (replicate n 0)
-counted n = sym (length-replicate n 0)
 
 buffer-requires : tie.Need-buffer-requires
 buffer-requires c κs = search needs
@@ -40,7 +37,7 @@ slice-aggregate-drive-file : tie.Need-slice-aggregate-drive-file
 slice-aggregate-drive-file c = search needs
 
 slice-aggregate-drive-file-2 : tie.Need-slice-aggregate-drive-file-2
-slice-aggregate-drive-file-2 c = counted 1048577
+slice-aggregate-drive-file-2 c = sym (length-replicate {0} {A = ℕ} 1048577 0)
 
 drive-file-requires : tie.Need-drive-file-requires
 drive-file-requires c κs = search needs

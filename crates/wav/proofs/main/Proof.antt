@@ -1,16 +1,13 @@
 -- The input's room, too long to be counted zero by zero.
-use mathlib.Core.Path.{_≡_, sym}
-use lib.ListN.{length, replicate, length-replicate}
+use mathlib.Core.Path.{sym}
+use lib.ListN.{length-replicate}
 use Prim.Native.Nat.{ℕ}
 use borrow.Author.Needs.{needs}
 use Rattle.wav.proofs.main.Statement.{statement}
 use Rattle.wav.proofs.main.Tie as tie
 
-counted : (n : ℕ) → n ≡ length {A = ℕ} (replicate n 0)
-counted n = sym (length-replicate n 0)
-
 slice-aggregate-read-full : tie.Need-slice-aggregate-read-full
-slice-aggregate-read-full c = counted 1048577
+slice-aggregate-read-full c = sym (length-replicate {0} {A = ℕ} 1048577 0)
 
 read-full-requires : tie.Need-read-full-requires
 read-full-requires c κs = search needs
