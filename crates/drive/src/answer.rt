@@ -1,5 +1,6 @@
 // A call done, and its line: laid in the text that is lent, from its front on.
 use crate::call::Call;
+use crate::output::labelled;
 use player::Player;
 use player::Turn;
 use refusal::Answer;
@@ -15,10 +16,10 @@ pub struct Said {
 
 // The record's words, behind the call's own.
 fn record(p: Player, text: &mut [u8], at: usize) -> Said {
-    let a = text::labelled(text, at, b" cycle ", p.cycle as u64);
-    let b = text::labelled(text, a, b" applied ", p.applied as u64);
-    let c = text::labelled(text, b, b" marks ", player::marks_set(p) as u64);
-    let d = text::labelled(text, c, b" free ", player::lowest_free(p) as u64);
+    let a = labelled(text, at, b" cycle ", p.cycle);
+    let b = labelled(text, a, b" applied ", p.applied);
+    let c = labelled(text, b, b" marks ", player::marks_set(p));
+    let d = labelled(text, c, b" free ", player::lowest_free(p));
     let end = text::words(text, d, b"\n");
     Said {
         player: p,
@@ -49,7 +50,7 @@ fn set(t: Turn, slot: u32, text: &mut [u8]) -> Said {
     let a = t.answer;
     match a {
         Answer::Accepted => {
-            let at = text::labelled(text, 0, b"set ", slot as u64);
+            let at = labelled(text, 0, b"set ", slot);
             record(p, text, at)
         }
         Answer::Refused(why) => refused(p, why, text),
@@ -62,8 +63,8 @@ fn play(p: Player, n: u32, log: &[u8], sides: &mut [i16], text: &mut [u8]) -> Sa
     let a = r.answer;
     match a {
         Answer::Accepted => {
-            let b = text::labelled(text, 0, b"played ", r.frames as u64);
-            let at = text::labelled(text, b, b" sum ", sum::of_frames(0, sides, r.frames) as u64);
+            let b = labelled(text, 0, b"played ", r.frames);
+            let at = labelled(text, b, b" sum ", sum::of_frames(0, sides, r.frames));
             record(q, text, at)
         }
         Answer::Refused(why) => refused(q, why, text),
@@ -89,7 +90,7 @@ fn image(p: Player, text: &mut [u8]) -> Said {
 }
 
 fn memory_sum(p: Player, memory: &[u8], text: &mut [u8]) -> Said {
-    let at = text::labelled(text, 0, b"memory sum ", sum::of_bytes(memory) as u64);
+    let at = labelled(text, 0, b"memory sum ", sum::of_bytes(memory));
     let end = text::words(text, at, b"\n");
     Said {
         player: p,

@@ -60,8 +60,8 @@ fn refused(why: Refusal) {
 
 fn opened(count: u32, cycles: u32) {
     let mut text = [0u8; 64];
-    let a = text::labelled(&mut text, 0, b"open entries ", count as u64);
-    let b = text::labelled(&mut text, a, b" cycles ", cycles as u64);
+    let a = output::labelled(&mut text, 0, b"open entries ", count);
+    let b = output::labelled(&mut text, a, b" cycles ", cycles);
     let end = text::words(&mut text, b, b"\n");
     output::put(&text, end);
 }
