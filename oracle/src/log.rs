@@ -53,8 +53,22 @@ pub fn entry(log: &[u8], index: u32) -> Result<Option<Write>, Refused> {
     if index >= count {
         return Ok(None);
     }
+    Ok(Some(write_at(log, index)))
+}
+
+/// All entries of an accepted log, in file order.
+pub fn writes(log: &[u8]) -> Vec<Write> {
+    (0..room(log)).map(|index| write_at(log, index)).collect()
+}
+
+/// The whole entries that the bytes have room for, whatever the header says.
+pub fn room(log: &[u8]) -> u32 {
+    (log.len().saturating_sub(HEADER) / ENTRY) as u32
+}
+
+fn write_at(log: &[u8], index: u32) -> Write {
     let at = place(index);
-    Ok(Some(Write { due: word(log, at), address: half(log, at + 4), byte: log[at + 6] }))
+    Write { due: word(log, at), address: half(log, at + 4), byte: log[at + 6] }
 }
 
 /// How many entries are due before the cycle. They are counted one by one: that they are in order is not used.

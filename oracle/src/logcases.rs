@@ -1,7 +1,7 @@
 //! Logs for the streams: random ones, damaged ones, and the stored sample. README.md has the table of what each part of
 //! the sample covers.
 
-use crate::log::{bytes_of, check, place, Write, MOST_ENTRIES};
+use crate::log::{bytes_of, check, place, room, Write, MOST_ENTRIES};
 use crate::logstream::{Maker, MOST_BYTES};
 use crate::random::Numbers;
 
@@ -34,11 +34,6 @@ fn due(index: u32) -> Field {
 
 fn last(index: u32) -> Field {
     (place(index) + 7, 1)
-}
-
-/// The whole entries that the bytes have room for, whatever the header says.
-fn room(log: &[u8]) -> u32 {
-    log.len().saturating_sub(16) as u32 / 8
 }
 
 /// Values that a wrong reader of a field may take for its old one: its neighbours, the ends, its bytes reversed, and
@@ -126,7 +121,7 @@ fn some_write(r: &mut Numbers, due: u32) -> Write {
 }
 
 /// A log that 01 accepts.
-fn accepted(r: &mut Numbers) -> Vec<u8> {
+pub fn accepted(r: &mut Numbers) -> Vec<u8> {
     let count = if r.one_in(400) { MOST } else { some_count(r) };
     // without entries any length will do, 0 too
     if count == 0 {
@@ -235,7 +230,7 @@ fn damage_both(log: &mut Vec<u8>, r: &mut Numbers) {
     set(log, COUNT, now);
 }
 
-fn damage(log: &mut Vec<u8>, r: &mut Numbers) {
+pub fn damage(log: &mut Vec<u8>, r: &mut Numbers) {
     if log.len() < 16 {
         return;
     }
@@ -257,7 +252,7 @@ fn damage(log: &mut Vec<u8>, r: &mut Numbers) {
 }
 
 /// Bytes that are a log by chance only.
-fn noise(r: &mut Numbers) -> Vec<u8> {
+pub fn noise(r: &mut Numbers) -> Vec<u8> {
     let size = r.below(65);
     (0..size).map(|_| r.byte()).collect()
 }

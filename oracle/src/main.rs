@@ -1,6 +1,8 @@
+use oracle::console::Console;
+use oracle::programs::{Against, Kind};
 use oracle::stream::Maker;
-use oracle::{bench, constants, explain, logcases, logstream, random, replay, sample};
-use std::io::{BufWriter, Read, Write};
+use oracle::{bench, constants, explain, listing, logcases, logstream, random, replay, sample, wavlog};
+use std::io::{BufRead, BufWriter, Read, Write};
 use std::mem::take;
 use std::process::exit;
 
@@ -12,7 +14,14 @@ const USAGE: &str = "usage: oracle constants
        oracle bench CYCLES
        oracle logs SEED CASES                 a stream of random and damaged logs
        oracle logsample                       the stored sample of logs, to standard output
-       oracle logreplay                       replays a stream of logs from standard input on the oracle's own reading";
+       oracle logreplay                       replays a stream of logs from standard input on the oracle's own reading
+       oracle lister                          01's listing of the log on standard input
+       oracle wav                             a WAV of the log on standard input
+       oracle wavlog                          the log of the stored run of crates/wav, to standard output
+       oracle console FILE                    the console over the log in FILE
+       oracle against list|wav|drive FIRST SEEDS CASES FOUND PROGRAM [WORD..]
+                                              holds a program against these three; what differs goes to the folder FOUND
+                                              with a smaller case, or nowhere where that is -";
 
 fn main() {
     let words: Vec<String> = std::env::args().skip(1).collect();
@@ -29,6 +38,16 @@ fn main() {
         ["logs", seed, cases] => write_logs(number(seed), number(cases)),
         ["logsample"] => write_logsample(),
         ["logreplay"] => report(logstream::replay(&read_in())),
+        ["lister"] => put(listing::listing(&read_in()).as_bytes()),
+        ["wav"] => match listing::wav(&read_in()) {
+            Ok(bytes) => put(&bytes),
+            Err(why) => eprint!("{}", listing::refused(why)),
+        },
+        ["wavlog"] => put(&wavlog::stored()),
+        ["console", file] => console(file),
+        ["against", kind, first, seeds, cases, found, ref program @ ..] if !program.is_empty() => {
+            against(kind, [first, seeds, cases].map(number), found, program)
+        }
         _ => fail(USAGE),
     }
 }
@@ -120,6 +139,31 @@ fn report<T: std::fmt::Display>(replayed: Result<T, String>) {
             exit(1);
         }
     }
+}
+
+fn console(file: &str) {
+    let log = std::fs::read(file).unwrap_or_else(|e| fail(&format!("{file}: {e}")));
+    let (first, console) = Console::open(&log);
+    put(format!("{first}\n").as_bytes());
+    let Some(mut console) = console else { return };
+    let (mut input, mut line) = (std::io::stdin().lock(), Vec::new());
+    while input.read_until(b'\n', &mut line).unwrap_or_else(|e| fail(&e.to_string())) > 0 {
+        let answer = console.answer(line.strip_suffix(b"\n").unwrap_or(&line));
+        put(format!("{answer}\n").as_bytes());
+        line.clear();
+    }
+}
+
+fn against(kind: &str, [first, seeds, cases]: [u64; 3], found: &str, program: &[&str]) {
+    let kind = Kind::ALL.into_iter().find(|known| known.word() == kind).unwrap_or_else(|| fail(USAGE));
+    let room = std::env::temp_dir().join(format!("oracle-{}", std::process::id()));
+    std::fs::create_dir_all(&room).unwrap_or_else(|e| fail(&e.to_string()));
+    let program = program.iter().map(|word| word.to_string()).collect();
+    let found = (found != "-").then(|| found.into());
+    let against = Against { program, room, found };
+    let compared = against.compare(kind, first, seeds, cases);
+    let _ = std::fs::remove_dir_all(&against.room);
+    report(compared);
 }
 
 fn run_explain(all: Option<u64>) {

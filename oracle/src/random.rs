@@ -221,7 +221,9 @@ pub fn case(maker: &mut Maker, r: &mut Numbers, max_cycles: u32) {
     let mut left = max_cycles >> r.below(8);
     for _ in 0..4 + r.below(12) {
         if r.one_in(3) {
-            setup(maker, r);
+            for (address, byte) in setup(r) {
+                maker.write(address, byte);
+            }
         } else {
             for _ in 0..r.below(6) {
                 let (address, byte) = write(r);
@@ -285,29 +287,31 @@ fn register(r: &mut Numbers, byte: u8) -> (u32, u8) {
     (0x400 + 0x40 * channel + mirror + offset, byte)
 }
 
-/// A channel set up and started as a tune would do it, so that cases from power-on make sound.
-fn setup(maker: &mut Maker, r: &mut Numbers) {
+/// The writes that set up and start a channel as a tune would do it, so that cases from power-on make sound.
+pub fn setup(r: &mut Numbers) -> Vec<(u32, u8)> {
     let channel = r.below(6);
     let base = 0x400 + 0x40 * channel;
+    let mut list = Vec::new();
     if r.flag() == 1 {
-        maker.write(0x580, 1);
+        list.push((0x580, 1));
         for _ in 0..r.below(12) {
             let byte = r.byte();
-            maker.write(4 * r.below(0xC0), byte);
+            list.push((4 * r.below(0xC0), byte));
         }
     }
     let frequency = r.frequency();
-    maker.write(base + 0x04, r.byte() | 0x11);
-    maker.write(base + 0x08, frequency as u8);
-    maker.write(base + 0x0C, (frequency >> 8) as u8);
-    maker.write(base + 0x10, r.byte());
-    maker.write(base + 0x14, r.byte() | 1);
-    maker.write(base + 0x18, r.byte() & 0x83);
+    list.push((base + 0x04, r.byte() | 0x11));
+    list.push((base + 0x08, frequency as u8));
+    list.push((base + 0x0C, (frequency >> 8) as u8));
+    list.push((base + 0x10, r.byte()));
+    list.push((base + 0x14, r.byte() | 1));
+    list.push((base + 0x18, r.byte() & 0x83));
     if channel == SWEPT as u32 {
-        maker.write(base + 0x1C, r.byte() & 0x9F);
-        maker.write(base + 0x14, r.byte() | 0x40);
+        list.push((base + 0x1C, r.byte() & 0x9F));
+        list.push((base + 0x14, r.byte() | 0x40));
     }
-    maker.write(base, r.byte() | 0x80);
+    list.push((base, r.byte() | 0x80));
+    list
 }
 
 /// One run or two, at most `left` cycles; answers how many.

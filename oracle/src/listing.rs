@@ -1,0 +1,60 @@
+//! What the programs over a whole log print: document 01's listing, and the same frames as a WAV.
+
+use crate::log::{check, writes, Refused};
+use crate::run::Run;
+use crate::vsu::traits::AudioFrame;
+
+/// The most bytes of a log that the lister takes, and that the other programs take.
+pub const LISTED: usize = 65_536;
+pub const OPENED: usize = 1_048_576;
+
+/// The size comes before the log's own refusals: a log that is too long was not read to its end.
+pub fn check_sized(log: &[u8], most: usize) -> Result<(u32, u32), Refused> {
+    if log.len() > most {
+        return Err((2, 0));
+    }
+    check(log)
+}
+
+pub fn refused((number, carried): Refused) -> String {
+    format!("refused {number} {carried}\n")
+}
+
+fn frames(log: &[u8], cycles: u32) -> Vec<(u32, AudioFrame)> {
+    Run::new(writes(log)).frames(0, cycles)
+}
+
+/// The listing, or the line of its refusal.
+pub fn listing(log: &[u8]) -> String {
+    let (count, cycles) = match check_sized(log, LISTED) {
+        Ok(checked) => checked,
+        Err(why) => return refused(why),
+    };
+    let frames = frames(log, cycles);
+    let mut text = format!("log 1 entries {count} cycles {cycles} frames {}\n", frames.len());
+    for (number, (made, (left, right))) in (1..).zip(frames) {
+        text += &format!("{number} {made} {left} {right}\n");
+    }
+    text
+}
+
+/// A 16-bit stereo WAV of the frames as they are.
+pub fn wav(log: &[u8]) -> Result<Vec<u8>, Refused> {
+    let (_, cycles) = check_sized(log, OPENED)?;
+    let frames = frames(log, cycles);
+    let size = 4 * frames.len() as u32;
+    let mut bytes = Vec::new();
+    bytes.extend(b"RIFF");
+    bytes.extend((36 + size).to_le_bytes());
+    bytes.extend(b"WAVEfmt ");
+    bytes.extend(16u32.to_le_bytes());
+    bytes.extend([1u16, 2].map(u16::to_le_bytes).concat()); // PCM, two channels
+    bytes.extend([41_667u32, 166_668].map(u32::to_le_bytes).concat()); // frames and bytes of a second
+    bytes.extend([4u16, 16].map(u16::to_le_bytes).concat()); // bytes of a frame, bits of a side
+    bytes.extend(b"data");
+    bytes.extend(size.to_le_bytes());
+    for (_, (left, right)) in frames {
+        bytes.extend([left, right].map(i16::to_le_bytes).concat());
+    }
+    Ok(bytes)
+}

@@ -1,0 +1,252 @@
+//! Random input for the console: calls of every kind, and lines that are none. The oracle's own player goes along, so that
+//! targets lie around where the player stands.
+
+use crate::console::{parse, Line};
+use crate::log::writes;
+use crate::player::Player;
+use crate::random::Numbers;
+use crate::tunes::FULL;
+
+/// The most cycles that the calls of one script have a player run; more where one play has to fill the frame buffer.
+const CYCLES: u64 = 2_500_000;
+const LONG_CYCLES: u64 = 40_000_000;
+
+struct Script<'a> {
+    r: &'a mut Numbers,
+    player: Player,
+    dues: Vec<u32>,
+    length: u32,
+    /// how many slots are used, so that marks are set again, cleared and gone to
+    slots: u32,
+    left: u64,
+    input: Vec<u8>,
+}
+
+/// The input for a console over this log.
+pub fn script(r: &mut Numbers, log: &[u8]) -> Vec<u8> {
+    let Ok((player, _, length)) = Player::open(log) else { return b"image\nplay 1\nseek 0\n".to_vec() };
+    if r.one_in(60) {
+        return [&b""[..], b"\n", b"\n\n", b"\r\n"][r.below(4) as usize].to_vec();
+    }
+    let dues = writes(log).iter().map(|w| w.due).collect();
+    let slots = r.pick(&[2, 4, 16]);
+    let long = (FULL..FULL + 1_000_000).contains(&length);
+    let left = if long { LONG_CYCLES } else { CYCLES };
+    let mut script = Script { r, player, dues, length, slots, left, input: Vec::new() };
+    if long {
+        script.play_full();
+    }
+    let many = script.r.one_in(30);
+    for _ in 0..if many { 200 } else { 5 + script.r.below(35) } {
+        script.step();
+    }
+    script.end();
+    script.input
+}
+
+impl Script<'_> {
+    fn step(&mut self) {
+        match self.r.below(25) {
+            0..=5 => self.play(),
+            6..=9 => self.seek(),
+            10 | 11 => self.slot_call("set"),
+            12 | 13 => self.send(b"set free"),
+            14 | 15 => self.slot_call("clear"),
+            16..=18 => self.slot_call("goto"),
+            19 | 20 => self.send(b"image"),
+            21 => self.send(b"memory"),
+            22 if self.r.one_in(4) => self.fill(),
+            _ => {
+                let line = bad(self.r);
+                self.send(&line);
+            }
+        }
+        if self.r.one_in(3) {
+            self.send(b"image");
+        }
+    }
+
+    /// Writes the line down, but for a call that would be taken and run for longer than is left.
+    fn send(&mut self, line: &[u8]) {
+        if let Line::Call(call) = parse(line) {
+            let (cost, refused) = (self.player.cost(call) as u64, self.player.refused(call).is_some());
+            if !refused && cost > self.left {
+                return;
+            }
+            self.left -= if refused { 0 } else { cost };
+            let _ = self.player.call(call);
+        }
+        self.input.extend_from_slice(line);
+        self.input.push(b'\n');
+    }
+
+    fn send_number(&mut self, word: &str, n: u32) {
+        let width = if self.r.one_in(12) { 1 + self.r.below(10) as usize } else { 1 };
+        self.send(format!("{word} {n:0width$}").as_bytes());
+    }
+
+    /// At, one before or one after something: an entry, the ends of the log, a mark, a frame, or where the player stands.
+    fn target(&mut self) -> u32 {
+        let (cycle, length) = (self.player.cycle, self.length);
+        let at = match self.r.below(12) {
+            0..=3 if !self.dues.is_empty() => self.dues[self.r.below(self.dues.len() as u32) as usize],
+            4 => 0,
+            5 | 6 => length,
+            7 => cycle,
+            8 => self.player.marks[self.r.below(self.slots) as usize].unwrap_or(0),
+            9 => 480 * self.r.below(length.min(1_000_000) / 480 + 1),
+            10 if self.r.one_in(4) => return u32::MAX,
+            _ => self.r.below(length.min(1_000_000)),
+        };
+        match self.r.below(4) {
+            0 => at.saturating_sub(1),
+            1 => at.saturating_add(1),
+            _ => at,
+        }
+    }
+
+    /// From the end of the log mostly after a seek back, so that there is something to play.
+    fn play(&mut self) {
+        if self.player.cycle == self.length && !self.r.one_in(4) {
+            self.seek();
+        }
+        let to = self.target();
+        let short = self.r.pick(&[0, 1, 479, 480, 481, 960, 4_800, 48_000, 48_000, u32::MAX]);
+        let n = if self.length >= FULL && self.r.one_in(3) {
+            self.full()
+        } else if to < self.player.cycle || self.r.one_in(4) {
+            short
+        } else {
+            to - self.player.cycle
+        };
+        self.send_number("play", n);
+    }
+
+    /// The cycles for 32,767 frames, for 32,768, the most that make no more, and the least that do.
+    fn full(&mut self) -> u32 {
+        let into = self.player.cycle % 480;
+        self.r.pick(&[FULL - into - 1, FULL - into, FULL + 479 - into, FULL + 480 - into])
+    }
+
+    fn play_full(&mut self) {
+        let from = self.r.below((self.length - FULL + 1).min(1_000));
+        self.send_number("seek", from);
+        let n = self.full();
+        self.send_number("play", n);
+    }
+
+    fn seek(&mut self) {
+        let to = self.target();
+        self.send_number("seek", to);
+    }
+
+    fn slot_call(&mut self, word: &str) {
+        let slot = match self.r.below(12) {
+            0 => 14 + self.r.below(7),
+            1 => self.r.pick(&[255, 256, 65_536, 65_539, 0x8000_0000, u32::MAX]),
+            2..=5 if word != "set" => self.set_slot(),
+            _ => self.r.below(self.slots),
+        };
+        self.send_number(word, slot);
+    }
+
+    /// The slot of a mark that is set, or the first.
+    fn set_slot(&mut self) -> u32 {
+        let set: Vec<u32> = (0..16).filter(|&slot| self.player.marks[slot as usize].is_some()).collect();
+        if set.is_empty() {
+            0
+        } else {
+            self.r.pick(&set)
+        }
+    }
+
+    /// Takes slots until none is free, and asks for one more.
+    fn fill(&mut self) {
+        while self.player.free() < 16 {
+            self.send(b"set free");
+            if self.r.one_in(3) {
+                self.play();
+            }
+        }
+        self.send(b"set free");
+        self.send(b"memory");
+    }
+
+    /// A rest without a newline is a line; an empty rest is none.
+    fn end(&mut self) {
+        match self.r.below(6) {
+            0 | 1 => {
+                self.input.pop();
+            }
+            2 => self.input.extend_from_slice(b"image"),
+            3 => self.input.extend_from_slice(b"\n"),
+            _ => {}
+        }
+    }
+}
+
+// Lists, with a bar between two.
+const GOOD: &str = "play 480|play 1|seek 0|seek 481|set 3|set free|clear 0|goto 1|image|memory";
+
+/// Lines that are no call although they look like one.
+const ODD: &str = "| |play|play |seek|set|set |clear|goto|goto |play480|play 1 2|play 0x10|play 1e3|play 4.0|play 4,000|play one|\
+    play free|seek free|clear free|goto free|set Free|set fre|set freee|set free |set  free|setfree|image 0|images|mage|\
+    memory 0|memor|unknown|open|quit|go to 1|stop|play -0|play +0|seek 18446744073709551616|play 4294967296|goto 4294967297";
+
+/// Numbers around their limits: ten digits and eleven, the largest and one more, signs, other digits.
+const NUMBERS: &str =
+    "4294967295|4294967296|4294967297|9999999999|10000000000|04294967295|0000000001|00000000001|0000000000|\
+    00000000000|+1|-1|1-|1_000|１|²|18446744073709551617|/|:|0:|/0";
+
+fn any<'a>(r: &mut Numbers, list: &'a str) -> &'a str {
+    let list: Vec<&str> = list.split('|').collect();
+    list[r.below(list.len() as u32) as usize]
+}
+
+/// A line that is mostly no call.
+fn bad(r: &mut Numbers) -> Vec<u8> {
+    let good = any(r, GOOD);
+    let line = match r.below(12) {
+        0..=2 => any(r, ODD).to_string(),
+        3 => good.to_uppercase(),
+        4 => good[..1].to_uppercase() + &good[1..],
+        5 => good.replace(' ', any(r, "  |\t|\r|\0|\u{b}|\u{a0}|_|")),
+        6 => good.to_string() + any(r, " |\t|\r|\0|0 |\u{7f}|é| 0"),
+        7 => any(r, " |\t|\0|\u{feff}|+|-|0|\r").to_string() + good,
+        8 => any(r, "play|seek|set|clear|goto").to_string() + " " + any(r, NUMBERS),
+        9 => return long(r, good),
+        10 => return edited(r, good),
+        _ => return (0..r.below(30)).map(|_| r.below(256) as u8).filter(|&byte| byte != b'\n').collect(),
+    };
+    line.into_bytes()
+}
+
+/// Lines longer than any buffer for them may be, that begin or end like a call.
+fn long(r: &mut Numbers, good: &str) -> Vec<u8> {
+    let near = r.pick(&[16, 32, 64, 100, 128, 256, 512, 1_024, 2_048, 4_096, 4_096, 8_192, 16_384, 65_536, 200_000]);
+    let size = (near + r.below(21) - 10) as usize;
+    let fill = [b'x', b' ', b'0', 0, 0xFF][r.below(5) as usize];
+    let fill = vec![fill; size];
+    match r.below(4) {
+        0 => fill,
+        1 => [good.as_bytes(), &fill].concat(),
+        2 => [&fill, good.as_bytes()].concat(),
+        _ => [b"play ", &fill[..], b"1"].concat(),
+    }
+}
+
+/// One byte of a good line lost, doubled or changed; it may still be a call.
+fn edited(r: &mut Numbers, good: &str) -> Vec<u8> {
+    let mut line = good.as_bytes().to_vec();
+    let at = r.below(line.len() as u32) as usize;
+    match r.below(4) {
+        0 => {
+            line.remove(at);
+        }
+        1 => line.insert(at, line[at]),
+        2 => line[at] ^= 1 << r.below(8),
+        _ => line.truncate(at),
+    }
+    line.retain(|&byte| byte != b'\n');
+    line
+}

@@ -1,0 +1,386 @@
+//! The programs over a log: document 01's own log and a session by hand; and consoles that are wrong, which the comparison
+//! has to find.
+
+use oracle::console::{lines, parse, session, Line};
+use oracle::digest::{fold, sum_of};
+use oracle::image::{from_image, image, image_of};
+use oracle::listing::{check_sized, listing, wav, LISTED, OPENED};
+use oracle::log::{bytes_of, writes, Write};
+use oracle::player::{Call, MARKS, ROOM, SLOT};
+use oracle::programs::{case, different, wanted, Case, Kind, Totals};
+use oracle::random::Numbers;
+use oracle::run::Run;
+use oracle::state::power_on;
+use oracle::vsu::traits::{AudioFrame, Sink};
+use oracle::VSU;
+
+/// 01's own log.
+fn own() -> Vec<u8> {
+    let write = |address, byte| Write { due: 0, address, byte };
+    bytes_of(960, &[write(0x000, 0x3F), write(0x404, 0xF0), write(0x410, 0xF0), write(0x400, 0x80)])
+}
+
+#[test]
+fn the_listing_of_the_own_log() {
+    assert_eq!(listing(&own()), "log 1 entries 4 cycles 960 frames 2\n1 480 3648 0\n2 960 3648 0\n");
+    assert_eq!(listing(&own()[..15]), "refused 3 0\n");
+    assert_eq!(listing(&bytes_of(0, &[])), "log 1 entries 0 cycles 0 frames 0\n");
+    assert_eq!(listing(&vec![0; LISTED + 1]), "refused 2 0\n");
+    assert_eq!(listing(&vec![0; LISTED]), "refused 4 0\n");
+}
+
+#[test]
+fn the_wav_of_the_own_log() {
+    let bytes = [
+        &b"RIFF"[..],
+        &[44, 0, 0, 0],
+        b"WAVEfmt ",
+        &[16, 0, 0, 0, 1, 0, 2, 0],                         // PCM, two channels
+        &[0xC3, 0xA2, 0, 0, 0x0C, 0x8B, 2, 0, 4, 0, 16, 0], // 41,667 and 166,668 a second, 4 bytes, 16 bits
+        b"data",
+        &[8, 0, 0, 0],
+        &[0x40, 0x0E, 0, 0, 0x40, 0x0E, 0, 0], // 3648 and 0, twice
+    ]
+    .concat();
+    assert_eq!(wav(&own()), Ok(bytes));
+    assert_eq!(wav(&vec![0; OPENED + 1]), Err((2, 0)));
+    assert_eq!(wav(&vec![0; OPENED]), Err((4, 0)));
+}
+
+/// The state at each cycle, against the unit stepped by hand.
+#[test]
+fn entries_due_before() {
+    let stop = Write { due: 3, address: 0x580, byte: 1 };
+    let play = Write { due: 0, address: 0x400, byte: 0x80 };
+    let mut run = Run::new(vec![play, stop]);
+    let play_at = |run: &mut Run, cycle| (run.at(cycle).0, run.at(cycle).1.channels[0].play);
+    let seen: Vec<_> = (0..6).map(|cycle| play_at(&mut run, cycle)).collect();
+    assert_eq!(seen, [(0, 0), (1, 1), (1, 1), (1, 1), (2, 0), (2, 0)]);
+    assert_eq!(play_at(&mut run, 20_000), (2, 0));
+    assert_eq!(play_at(&mut run, 3), (1, 1));
+    assert_eq!(run.frames(479, 480).len(), 1);
+    assert_eq!(run.frames(480, 959).len(), 0);
+}
+
+/// The slot that a mark at cycle 480 of 01's own log fills, and the memory's sum with only that one.
+fn slot_at_480() -> u32 {
+    let mut unit = VSU::new();
+    own()[16..].chunks(8).for_each(|e| unit.set_u8(e[4] as usize + 256 * e[5] as usize, e[6]));
+    unit.step(480, &mut oracle::digest::Frames::default());
+    let mut memory = [&[0xE0, 1, 0, 0, 4, 0, 0, 0], &image(&unit)[..]].concat();
+    memory.resize(6_848, 0);
+    sum_of(&memory)
+}
+
+#[test]
+fn a_session_by_hand() {
+    let sum = slot_at_480();
+    let memory = format!("memory sum {sum}");
+    let image: String = image_of(&power_on()).iter().map(|byte| format!("{byte:02x}")).collect();
+    let image = format!("image {image}");
+    // 3648 and 0 fold to 31 × 3648
+    let steps = [
+        ("memory", "memory sum 0"),
+        ("image", &image),
+        ("play 480", "played 1 sum 113088 cycle 480 applied 4 marks 0 free 0"),
+        ("set free", "set 0 cycle 480 applied 4 marks 1 free 1"),
+        ("memory", &memory),
+        ("play 480", "played 1 sum 113088 cycle 960 applied 4 marks 1 free 1"),
+        ("play 0", "played 0 sum 0 cycle 960 applied 4 marks 1 free 1"),
+        ("play 1", "refused 12 0 cycle 960 applied 4 marks 1 free 1"),
+        ("goto 0", "went cycle 480 applied 4 marks 1 free 1"),
+        ("goto 1", "refused 15 0 cycle 480 applied 4 marks 1 free 1"),
+        ("goto 16", "refused 14 0 cycle 480 applied 4 marks 1 free 1"),
+        ("clear 4294967295", "refused 14 0 cycle 480 applied 4 marks 1 free 1"),
+        ("clear 0", "cleared cycle 480 applied 4 marks 0 free 0"),
+        ("memory", &memory),
+        ("clear 0", "refused 15 0 cycle 480 applied 4 marks 0 free 0"),
+        ("seek 961", "refused 12 0 cycle 480 applied 4 marks 0 free 0"),
+        ("seek 1", "sought cycle 1 applied 4 marks 0 free 0"),
+        ("seek 0", "sought cycle 0 applied 0 marks 0 free 0"),
+        ("image", &image),
+        ("set 007", "set 7 cycle 0 applied 0 marks 1 free 0"),
+        ("", "unknown"),
+        ("seek 960", "sought cycle 960 applied 4 marks 1 free 0"),
+    ];
+    let input: Vec<&str> = steps.iter().map(|(line, _)| *line).collect();
+    let answers: Vec<&str> = steps.iter().map(|(_, answer)| *answer).collect();
+    let session = session(&own(), input.join("\n").as_bytes());
+    assert_eq!(session.lines[0], "open entries 4 cycles 960");
+    assert_eq!(session.lines[1..], answers);
+    assert_eq!(session.cycles, 480 + 480 + 1 + 960);
+}
+
+#[test]
+fn sixteen_marks_and_the_frame_buffer() {
+    let log = bytes_of(480 * 40_000, &[]);
+    let last = |input: &str| session(&log, input.as_bytes()).lines.pop().unwrap();
+    assert_eq!(last(&"set free\n".repeat(16)), "set 15 cycle 0 applied 0 marks 16 free 16");
+    assert_eq!(last(&"set free\n".repeat(17)), "refused 16 0 cycle 0 applied 0 marks 16 free 16");
+    assert_eq!(last("play 15729119"), "played 32768 sum 0 cycle 15729119 applied 0 marks 0 free 0");
+    assert_eq!(last("play 15729120"), "refused 2 0 cycle 0 applied 0 marks 0 free 0");
+    assert_eq!(last("play 479\nplay 15728640"), "played 32768 sum 0 cycle 15729119 applied 0 marks 0 free 0");
+    assert_eq!(last("play 479\nplay 15728641"), "refused 2 0 cycle 479 applied 0 marks 0 free 0");
+    assert_eq!(last("play 4294967295"), "refused 12 0 cycle 0 applied 0 marks 0 free 0");
+}
+
+#[test]
+fn lines_that_are_no_call() {
+    assert_eq!(parse(b"play 4294967295"), Line::Call(Call::Play(u32::MAX)));
+    assert_eq!(parse(b"goto 0000000016"), Line::Call(Call::GoTo(16)));
+    let none =
+        "play 4294967296|play 00000000001|play |play|Play 1|play  1|play\t1|play 1\r|play +1|play -1| play 1|play 1 |\
+                image |IMAGE|set Free|set  free|clear free|goto free|seek 1e3|play \u{b2}|play 1\0";
+    none.split('|').for_each(|line| assert_eq!(parse(line.as_bytes()), Line::Unknown, "{line:?}"));
+    assert_eq!(lines(b""), [b""; 0]);
+    assert_eq!(lines(b"\n"), [b""]);
+    assert_eq!(lines(b"image\n\nset free"), [&b"image"[..], b"", b"set free"]);
+    assert_eq!(lines(b"image\r\n"), [b"image\r"]);
+}
+
+/// How a console is wrong.
+#[derive(Clone, Copy, Debug, PartialEq)]
+enum Fault {
+    None,
+    /// a seek back sends the writes again, and runs nothing in between
+    RegistersAgain,
+    /// a play begins with the log's first entry wherever it stands
+    FromFirstEntry,
+    /// those due at the cycle are counted too
+    AppliedOffByOne,
+    GoToLeavesState,
+    LeftSideOnly,
+    RestIsNoLine,
+    WritesOneLate,
+    ClearWrites,
+    ClearedNotUsedAgain,
+    RoomWithoutCounter,
+    RoomFirst,
+    RefusedPlayRuns,
+}
+
+/// A console in the player's own way: the unit is carried along from call to call, a mark is its image.
+struct Carried {
+    fault: Fault,
+    writes: Vec<Write>,
+    length: u32,
+    unit: VSU,
+    cycle: u32,
+    applied: usize,
+    marks: [bool; MARKS],
+    memory: Vec<u8>,
+}
+
+#[derive(Default)]
+struct Sum(u32, u32, bool);
+
+impl Sink<AudioFrame> for Sum {
+    fn append(&mut self, (left, right): AudioFrame) {
+        let right = if self.2 { 0 } else { right };
+        *self = Sum(self.0 + 1, fold(fold(self.1, left as u16 as u32), right as u16 as u32), self.2);
+    }
+}
+
+impl Carried {
+    fn new(fault: Fault, log: &[u8], length: u32) -> Self {
+        let memory = vec![0; MARKS * SLOT];
+        let (unit, marks) = (VSU::new(), [false; MARKS]);
+        Carried { fault, writes: writes(log), length, unit, cycle: 0, applied: 0, marks, memory }
+    }
+
+    fn run_to(&mut self, to: u32) -> Sum {
+        let late = u32::from(self.fault == Fault::WritesOneLate);
+        let mut sum = Sum(0, 0, self.fault == Fault::LeftSideOnly);
+        while self.cycle < to {
+            while self.applied < self.writes.len() && self.writes[self.applied].due + late <= self.cycle {
+                self.write_next();
+            }
+            self.unit.step(1, &mut sum);
+            self.cycle += 1;
+        }
+        sum
+    }
+
+    fn write_next(&mut self) {
+        let w = self.writes[self.applied];
+        self.unit.set_u8(w.address as usize, w.byte);
+        self.applied += 1;
+    }
+
+    fn play(&mut self, n: u32) -> String {
+        let output = if self.fault == Fault::RoomWithoutCounter { 0 } else { self.cycle as u64 % 480 };
+        let full = (output + n as u64) / 480 > ROOM;
+        let beyond = self.cycle as u64 + n as u64 > self.length as u64;
+        if full && (self.fault == Fault::RoomFirst || !beyond) {
+            return "refused 2 0".to_string();
+        }
+        if beyond {
+            if self.fault == Fault::RefusedPlayRuns {
+                self.run_to(self.length.min(self.cycle + 1));
+            }
+            return "refused 12 0".to_string();
+        }
+        if self.fault == Fault::FromFirstEntry {
+            self.applied = 0;
+        }
+        let sum = self.run_to(self.cycle + n);
+        format!("played {} sum {}", sum.0, sum.1)
+    }
+
+    fn seek(&mut self, to: u32) -> String {
+        if to > self.length {
+            return "refused 12 0".to_string();
+        }
+        if to < self.cycle {
+            (self.unit, self.cycle, self.applied) = (VSU::new(), 0, 0);
+            if self.fault == Fault::RegistersAgain {
+                self.send_again(to);
+            }
+        }
+        self.run_to(to);
+        "sought".to_string()
+    }
+
+    /// The output counter is put right, so that frames come when they are due.
+    fn send_again(&mut self, to: u32) {
+        while self.applied < self.writes.len() && self.writes[self.applied].due < to {
+            self.write_next();
+        }
+        let mut state = oracle::state::read(&self.unit);
+        state.output = to % 480;
+        self.unit = oracle::state::write(&state);
+        self.cycle = to;
+    }
+
+    fn set(&mut self, slot: usize) -> String {
+        let head = [self.cycle.to_le_bytes(), (self.applied as u32).to_le_bytes()].concat();
+        self.memory[SLOT * slot..][..8].copy_from_slice(&head);
+        self.memory[SLOT * slot + 8..][..SLOT - 8].copy_from_slice(&image(&self.unit));
+        self.marks[slot] = true;
+        format!("set {slot}")
+    }
+
+    fn go_to(&mut self, slot: usize) -> String {
+        let bytes = &self.memory[SLOT * slot..][..SLOT];
+        let number = |at: usize| u32::from_le_bytes(bytes[at..at + 4].try_into().unwrap());
+        (self.cycle, self.applied) = (number(0), number(4) as usize);
+        if self.fault != Fault::GoToLeavesState {
+            self.unit = from_image(bytes[8..].try_into().unwrap());
+        }
+        "went".to_string()
+    }
+
+    fn free(&self) -> usize {
+        if self.fault == Fault::ClearedNotUsedAgain {
+            return self.marks.iter().rposition(|&set| set).map_or(0, |last| last + 1);
+        }
+        self.marks.iter().position(|&set| !set).unwrap_or(MARKS)
+    }
+
+    fn call(&mut self, call: Call) -> String {
+        match call {
+            Call::Play(n) => self.play(n),
+            Call::Seek(to) => self.seek(to),
+            Call::SetFree if self.free() == MARKS => "refused 16 0".to_string(),
+            Call::SetFree => self.set(self.free()),
+            Call::Set(slot) | Call::Clear(slot) | Call::GoTo(slot) if slot > 15 => "refused 14 0".to_string(),
+            Call::Set(slot) => self.set(slot as usize),
+            Call::Clear(slot) | Call::GoTo(slot) if !self.marks[slot as usize] => "refused 15 0".to_string(),
+            Call::Clear(slot) => {
+                self.marks[slot as usize] = false;
+                if self.fault == Fault::ClearWrites {
+                    self.memory[SLOT * slot as usize..][..SLOT].fill(0);
+                }
+                "cleared".to_string()
+            }
+            Call::GoTo(slot) => self.go_to(slot as usize),
+        }
+    }
+
+    fn answer(&mut self, line: &[u8]) -> String {
+        let call = match parse(line) {
+            Line::Call(call) => call,
+            Line::Image => return format!("image {}", image(&self.unit).map(|byte| format!("{byte:02x}")).concat()),
+            Line::Memory => return format!("memory sum {}", sum_of(&self.memory)),
+            Line::Unknown => return "unknown".to_string(),
+        };
+        let done = self.call(call);
+        let due = |w: &&Write| w.due == self.cycle && self.fault == Fault::AppliedOffByOne;
+        let applied = self.applied + self.writes.iter().filter(due).count();
+        let set = self.marks.iter().filter(|&&set| set).count();
+        format!("{done} cycle {} applied {applied} marks {set} free {}", self.cycle, self.free())
+    }
+}
+
+fn printed(fault: Fault, case: &Case) -> Vec<u8> {
+    let Ok((count, length)) = check_sized(&case.log, OPENED) else { return wanted(case).printed.out };
+    let mut console = Carried::new(fault, &case.log, length);
+    let mut text = format!("open entries {count} cycles {length}\n");
+    let mut input = &case.script[..];
+    if fault == Fault::RestIsNoLine {
+        input = &input[..input.iter().rposition(|&byte| byte == b'\n').map_or(0, |at| at + 1)];
+    }
+    lines(input).iter().for_each(|line| text += &(console.answer(line) + "\n"));
+    text.into_bytes()
+}
+
+/// The cases until the console differs, and what differs.
+fn found(fault: Fault, cases: usize) -> Option<(usize, String)> {
+    let mut r = Numbers::new(1);
+    (1..=cases).find_map(|number| {
+        let case = case(Kind::Drive, &mut r);
+        Some((number, different(&case, &wanted(&case).printed.out, &printed(fault, &case))?))
+    })
+}
+
+/// A player that carries its state along is, call by call, the unbroken run.
+#[test]
+fn a_console_in_the_players_way_agrees() {
+    assert_eq!(found(Fault::None, 150), None);
+}
+
+#[test]
+fn wrong_consoles_are_found() {
+    use Fault::*;
+    let faults = [
+        RegistersAgain,
+        FromFirstEntry,
+        AppliedOffByOne,
+        GoToLeavesState,
+        LeftSideOnly,
+        RestIsNoLine,
+        WritesOneLate,
+        ClearWrites,
+        ClearedNotUsedAgain,
+        RoomWithoutCounter,
+        RoomFirst,
+        RefusedPlayRuns,
+    ];
+    for fault in faults {
+        let (number, what) = found(fault, 300).unwrap_or_else(|| panic!("{fault:?} is not found"));
+        println!("{fault:?}: case {number} {what}");
+    }
+}
+
+/// The cases come to everything that they are for.
+#[test]
+fn what_the_cases_hold() {
+    let (mut r, mut totals, mut silent, mut heard) = (Numbers::new(7), Totals::default(), 0, 0);
+    for _ in 0..300 {
+        let wanted = wanted(&case(Kind::Drive, &mut r));
+        let text = String::from_utf8(wanted.printed.out.clone()).unwrap();
+        let of_none = |line: &&str| line.starts_with("played") && !line.starts_with("played 0");
+        let (mute, loud): (Vec<&str>, Vec<&str>) =
+            text.lines().filter(of_none).partition(|line| line.contains(" sum 0 "));
+        (silent, heard) = (silent + mute.len(), heard + loud.len());
+        totals.add(Kind::Drive, &wanted);
+    }
+    println!("{totals}\nplays with frames: {heard} heard, {silent} silent");
+    for answer in ["played", "sought", "set", "cleared", "went", "image", "memory", "unknown"] {
+        assert!(totals.answers[answer] > 200, "{answer} is hardly seen");
+    }
+    for (refusal, least) in [("2", 20), ("12", 400), ("14", 200), ("15", 300), ("16", 50)] {
+        assert!(totals.answers[&format!("refused {refusal}")] > least, "refusal {refusal} is hardly seen");
+    }
+    assert!(totals.refused > 50 && 3 * totals.refused < 2 * totals.logs);
+}
