@@ -1,6 +1,7 @@
 // A call done, and its line: laid in the text that is lent, from its front on.
 use crate::call::Call;
 use crate::output::labelled;
+use crate::seek;
 use player::Player;
 use player::Turn;
 use refusal::Answer;
@@ -116,7 +117,7 @@ pub fn answer(
 ) -> Said {
     match call {
         Call::Play(n) => play(p, n, log, sides, text),
-        Call::Seek(target) => moved(player::seek(p, target, log), b"sought", text),
+        Call::Seek(target) => moved(seek::seek(p, target, log), b"sought", text),
         Call::Set(slot) => set(player::set_mark(p, slot, log, memory), slot, text),
         Call::SetFree => {
             let slot = player::lowest_free(p);

@@ -1,4 +1,5 @@
 // Lists the log on standard input as document 01's "The listing" says: its first line, then a line for each frame.
+use libc::STDERR_FILENO;
 use libc::STDIN_FILENO;
 use libc::STDOUT_FILENO;
 use log::Checked;
@@ -17,37 +18,24 @@ const FRAMES: u32 = 1024;
 
 const SPAN: u32 = 480 * FRAMES;
 
-// A line has at most 31 bytes; behind this place the buffer has fewer than 64 left.
-const FULL: usize = 65_536 - 64;
-
-// The player, the place of the next byte of text, and the hundredths that were told last.
+// The player, whether all that it played is listed, and the hundredths that were told last.
 struct Listing {
     player: Player,
-    at: usize,
+    written: bool,
     told: u32,
 }
 
-// Of a place past the buffer's end, which no function here answers, nothing.
-fn write_out(out: &[u8], at: usize) {
-    if at <= out.len() {
-        io::write_all(STDOUT_FILENO, &out[..at]);
+// Of a place past the text's end, which no function here answers, nothing.
+fn write_out(out: &[u8], at: usize) -> bool {
+    if at > out.len() {
+        return false;
     }
-}
-
-// Where the next line goes: to the start when little room is left, after what there is was written out. A listing has millions of
-// lines, and a write for each would be slow.
-fn line_start(out: &[u8], at: usize) -> usize {
-    if at <= FULL {
-        return at;
-    }
-    write_out(out, at);
-    0
+    io::write_all(STDOUT_FILENO, &out[..at])
 }
 
 // Number, cycle, left, right. Power-on has output counter 0, so frame n is made at cycle 480 × n.
 fn line(out: &mut [u8], at: usize, n: u64, cycle: u64, left: i16, right: i16) -> usize {
-    let start = line_start(out, at);
-    let a = text::number(out, start, n);
+    let a = text::number(out, at, n);
     let b = text::labelled(out, a, b" ", cycle);
     let c = text::labelled(out, b, b" ", sum::side(left) as u64);
     let d = text::labelled(out, c, b" ", sum::side(right) as u64);
@@ -56,9 +44,9 @@ fn line(out: &mut [u8], at: usize, n: u64, cycle: u64, left: i16, right: i16) ->
 
 // A line for each frame that a play made, behind the `before` frames of the plays before it. No play here makes more than FRAMES;
 // the test says so to the checker.
-fn lines(out: &mut [u8], at: usize, before: u32, sides: &[i16; 2048], made: u32) -> usize {
+fn lines(out: &mut [u8], before: u32, sides: &[i16; 2048], made: u32) -> usize {
     let end = if made < FRAMES { made } else { FRAMES };
-    let mut next = at;
+    let mut next = 0;
     let mut i: u32 = 0;
     while i < end {
         let n = (before as u64) + (i as u64) + 1;
@@ -77,51 +65,60 @@ fn shown(last: u32, done: u32, all: u32) -> u32 {
     progress::show(last, done, all)
 }
 
-// n of a log's cycles, at most a span and not beyond its end: so the play is never refused.
-fn play(l: Listing, n: u32, log: &[u8], cycles: u32, out: &mut [u8]) -> Listing {
+// n of a log's cycles, at most a span and not beyond its end: so the play is never refused. A line has at most 31 bytes, so there is
+// room for a line of each frame.
+fn play(l: Listing, n: u32, log: &[u8], cycles: u32) -> Listing {
     let mut sides = [0i16; 2048];
+    let mut out = [0u8; 32768];
     let p = l.player;
     let r = player::play(p, n, log, &mut sides);
-    let at = lines(out, l.at, p.cycle / 480, &sides, r.frames);
+    let at = lines(&mut out, p.cycle / 480, &sides, r.frames);
     let q = r.player;
     Listing {
         player: q,
-        at: at,
+        written: write_out(&out, at),
         told: shown(l.told, q.cycle, cycles),
     }
 }
 
-// A log of one span is done before there is anything to tell: hence the 100 at first.
-fn frames(out: &mut [u8], at: usize, log: &[u8], cycles: u32) -> usize {
+// Whether all frames are listed. A log of one span is done before there is anything to tell: hence the 100 at first.
+fn frames(log: &[u8], cycles: u32) -> bool {
     let t = player::open(log);
     let p = t.player;
     let mut l = Listing {
         player: p,
-        at: at,
+        written: true,
         told: 100,
     };
     let spans = cycles / SPAN;
     let mut i = 0;
     while i < spans {
-        l = play(l, SPAN, log, cycles, out);
+        l = play(l, SPAN, log, cycles);
+        if !l.written {
+            return false;
+        }
         i += 1;
     }
-    let last = play(l, cycles % SPAN, log, cycles, out);
-    last.at
+    let last = play(l, cycles % SPAN, log, cycles);
+    last.written
 }
 
 // Edition, entries, cycles, frames.
-fn heading(out: &mut [u8], log: &[u8], count: u32, cycles: u32) -> usize {
-    let a = text::labelled(out, 0, b"log ", little::u16_at(log, 0) as u64);
-    let b = text::labelled(out, a, b" entries ", count as u64);
-    let c = text::labelled(out, b, b" cycles ", cycles as u64);
-    let d = text::labelled(out, c, b" frames ", (cycles / 480) as u64);
-    text::words(out, d, b"\n")
+fn heading(log: &[u8], count: u32, cycles: u32) -> bool {
+    let mut out = [0u8; 128];
+    let a = text::labelled(&mut out, 0, b"log ", little::u16_at(log, 0) as u64);
+    let b = text::labelled(&mut out, a, b" entries ", count as u64);
+    let c = text::labelled(&mut out, b, b" cycles ", cycles as u64);
+    let d = text::labelled(&mut out, c, b" frames ", (cycles / 480) as u64);
+    let at = text::words(&mut out, d, b"\n");
+    write_out(&out, at)
 }
 
-fn refused(out: &mut [u8], why: Refusal) -> usize {
-    let a = text::refused(out, 0, why);
-    text::words(out, a, b"\n")
+fn refused(why: Refusal) -> bool {
+    let mut out = [0u8; 64];
+    let a = text::refused(&mut out, 0, why);
+    let at = text::words(&mut out, a, b"\n");
+    write_out(&out, at)
 }
 
 // The entries of the log, read one after another until none is left.
@@ -145,33 +142,28 @@ fn entries(log: &[u8], checked: Checked) -> u32
     }
 }
 
-fn list(out: &mut [u8], log: &[u8]) -> usize {
+fn list(log: &[u8]) -> bool {
     let c = log::check_log(log);
     match c {
         Checked::Log { count: _, cycles } => {
-            let at = heading(out, log, entries(log, c), cycles);
-            frames(out, at, log, cycles)
+            heading(log, entries(log, c), cycles) && frames(log, cycles)
         }
-        Checked::Refused(why) => refused(out, why),
+        Checked::Refused(why) => refused(why),
     }
 }
 
 // The input has room for one byte more than a log may have, so that a longer one shows.
-fn listed(out: &mut [u8]) -> usize {
+fn listed() -> bool {
     let mut space = [0u8; 65537];
     let size = io::read_full(STDIN_FILENO, &mut space);
     if size > 65_536 {
-        return refused(out, Refusal::Room);
+        return refused(Refusal::Room);
     }
-    list(out, &space[..size])
-}
-
-fn run(out: &mut [u8]) {
-    let at = listed(out);
-    write_out(out, at);
+    list(&space[..size])
 }
 
 fn main() {
-    let mut out = io::large_buffer();
-    run(&mut out);
+    if !listed() {
+        io::write_all(STDERR_FILENO, b"lister: standard output can't be written\n");
+    }
 }

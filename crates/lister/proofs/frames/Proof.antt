@@ -1,16 +1,14 @@
 -- Span after span, then what is left.
-use mathlib.Core.Path.{_≡_}
 use borrow.Author.Needs.{needs}
-use lib.ListN.{length}
 use Prim.Native.Nat.{_-_}
 use Rattle.lister.proofs.frames.Statement.{statement}
 use Rattle.lister.proofs.frames.Tie as tie
 
 abbrev Inv-loop : tie.InvT-loop
-Inv-loop out₀ at log cycles l₀ spans i₀ out l i = length out ≡ length out₀
+Inv-loop log cycles l₀ spans i₀ l i = Unit {0}
 
 abbrev μ-loop : tie.MeasureT-loop
-μ-loop out₀ at log cycles l₀ spans i₀ out l i = spans - i
+μ-loop log cycles l₀ spans i₀ l i = spans - i
 
 open-requires : tie.Need-open-requires Inv-loop μ-loop
 open-requires c κs = search needs
@@ -20,6 +18,9 @@ loop-holds c = search needs
 
 play-requires : tie.Need-play-requires Inv-loop μ-loop
 play-requires c κs = search needs
+
+returns : tie.Need-returns Inv-loop μ-loop
+returns c = search needs
 
 add-i : tie.Need-add-i Inv-loop μ-loop
 add-i c = search needs
@@ -33,11 +34,8 @@ loop-again c = search needs
 play-requires-2 : tie.Need-play-requires-2 Inv-loop μ-loop
 play-requires-2 c κs = search needs
 
-same-length : tie.Need-same-length Inv-loop μ-loop
-same-length c = search needs
-
-returns : tie.Need-returns Inv-loop μ-loop
-returns c = search needs
+returns-2 : tie.Need-returns-2 Inv-loop μ-loop
+returns-2 c = search needs
 
 pub frames-spec : {M : Type 1} → statement M
 frames-spec =
@@ -48,9 +46,9 @@ frames-spec =
     open-requires
     loop-holds
     play-requires
+    returns
     add-i
     loop-less
     loop-again
     play-requires-2
-    same-length
-    returns)
+    returns-2)

@@ -9,10 +9,10 @@ use Rattle.lister.proofs.lines.Statement.{statement}
 use Rattle.lister.proofs.lines.Tie as tie
 
 abbrev Inv-loop : tie.InvT-loop
-Inv-loop out₀ at before sides made end next₀ i₀ out next i = (end ≤ 1024) × (length out ≡ length out₀)
+Inv-loop out₀ before sides made end next₀ i₀ out next i = (end ≤ 1024) × (length out ≡ length out₀)
 
 abbrev μ-loop : tie.MeasureT-loop
-μ-loop out₀ at before sides made end next₀ i₀ out next i = end - i
+μ-loop out₀ before sides made end next₀ i₀ out next i = end - i
 
 loop-holds : tie.Need-loop-holds Inv-loop μ-loop
 loop-holds c = (⊎-elim (λ w. omega arith) (λ w. omega arith) (c .if1 .came), search needs)

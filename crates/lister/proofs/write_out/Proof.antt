@@ -5,17 +5,17 @@ use borrow.Author.Needs.{needs}
 use Rattle.lister.proofs.write_out.Statement.{statement}
 use Rattle.lister.proofs.write_out.Tie as tie
 
+returns : tie.Need-returns
+returns c = search needs
+
 slice-aggregate-write-all : tie.Need-slice-aggregate-write-all
 slice-aggregate-write-all c = sym (length-take-le _ _ (search needs))
 
 write-all-requires : tie.Need-write-all-requires
 write-all-requires c κs = search needs
 
-returns : tie.Need-returns
-returns c = search needs
-
 returns-2 : tie.Need-returns-2
 returns-2 c = search needs
 
 pub write-out-spec : {M : Type 1} → statement M
-write-out-spec = tie.close (tie.spec slice-aggregate-write-all write-all-requires returns returns-2)
+write-out-spec = tie.close (tie.spec returns slice-aggregate-write-all write-all-requires returns-2)
