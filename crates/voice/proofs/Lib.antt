@@ -1,2 +1,3 @@
+mod LentRecord
 pub mod SweepModulateLaws
 pub mod ChannelEnumLaws

@@ -258,7 +258,7 @@ pub fn step_sweep_modulate(v: Voice, modulation_data: &[i8; 32]) -> Voice
             sweep,
         } => {
             let c = v.channel;
-            let t = sweep_modulate::sweep_step(sweep, c, modulation_data);
+            let t = sweep_modulate::step_lent(sweep, c, modulation_data);
             let s = t.sweep;
             let d = t.channel;
             Voice {

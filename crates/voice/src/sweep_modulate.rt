@@ -177,6 +177,18 @@ pub fn step(s: SweepModulate, channel: &mut Channel, modulation_data: &[i8; 32])
     t.sweep
 }
 
+// The step with the record lent, for callers that hold it by value: the record stands in a local meanwhile.
+pub fn step_lent(s: SweepModulate, channel: Channel, modulation_data: &[i8; 32]) -> Stepped
+    ensures { λ r. ⌜ r ≡ sweepStep (now («modulation_data» .entry)) channel s ⌝ }
+{
+    let mut c = channel;
+    let t = step(s, &mut c, modulation_data);
+    Stepped {
+        sweep: t,
+        channel: c,
+    }
+}
+
 pub fn in_range(s: SweepModulate) -> bool
     ensures { λ r. ⌜ r ≡ sweepInRange s ⌝ }
 {

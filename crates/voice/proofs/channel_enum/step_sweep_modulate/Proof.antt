@@ -9,8 +9,8 @@ enum-told c = search needs
 enum-known-kind : tie.Need-enum-known-kind
 enum-known-kind c = search needs
 
-sweep-step-requires : tie.Need-sweep-step-requires
-sweep-step-requires c κs = search needs
+step-lent-requires : tie.Need-step-lent-requires
+step-lent-requires c κs = search needs
 
 enum-told-2 : tie.Need-enum-told-2
 enum-told-2 c = search needs
@@ -21,7 +21,7 @@ returns c = rw (c .enum-told .given .1, ← c .enum-told .given .1)
 
 returns-2 : tie.Need-returns-2
 unfolding stepSweepOf
-returns-2 c = rw (c .before .before .before .before .before .kind .given .1, c .before .before .sweep-step .ensures)
+returns-2 c = rw (c .before .before .before .before .before .kind .given .1, c .before .before .step-lent .ensures)
 
 returns-3 : tie.Need-returns-3
 unfolding stepSweepOf
@@ -33,7 +33,7 @@ step-sweep-modulate-spec =
     (tie.spec
     enum-told
     enum-known-kind
-    sweep-step-requires
+    step-lent-requires
     enum-told-2
     returns
     returns-2

@@ -20,10 +20,9 @@ use types.Run.{look, look-raw, init, store-raw, forget, stop, hop, fld, from, lo
 use types.Part.{whole, sub, look-in}
 use types.SemTy.{Body}
 use sound.WpLaws.{FmC, fmOf, WpFn-mono}
-use denote.RattleType.{RattleType, owns}
+use denote.RattleType.{owns}
 use denote.Laws.{Is, shows}
 use denote.Memory.{mem}
-use denote.Array.{Array}
 use denote.Builtin.{i8, ArrayOf}
 use denote.Ref.{RefT, MutRef, ShrRef, now, ptr-vals, mut-tells, shr-tells, shr-copy}
 use denote.Signature.{Slot, plain}
@@ -44,6 +43,7 @@ use Rattle.common.proofs.channel.Channel.Laws as CL
 use Rattle.voice.specs.SweepModulate.{sweepStep}
 use Rattle.voice.specs.declared.sweep_modulate.SweepModulate.{SweepModulate}
 use Rattle.voice.specs.declared.sweep_modulate.Stepped.{Stepped}
+use Rattle.voice.proofs.LentRecord.{Table, sv, cv}
 use Rattle.voice.proofs.sweep_modulate.SweepModulate as S′
 use Rattle.voice.proofs.sweep_modulate.SweepModulate.Laws as SL
 use Rattle.voice.proofs.sweep_modulate.Stepped as T′
@@ -57,22 +57,12 @@ use Rattle.voice.proofs.sweep_modulate.step as step
 use Rattle.voice.proofs.sweep_modulate.step.Statement as stated
 use Rattle.voice.proofs.sweep_modulate.step.Code as code
 
--- `[i8; 32]`, as a row and as a referent's place in the signature
-abbrev Table : RattleType
-Table = Array i8 32
-
+-- `[i8; 32]`, as a referent's place in the signature
 abbrev TableS : Slot 2
 TableS = ArrayOf (plain (λ _. i8)) (λ _. tt) 32
 
 abbrev stayed : Stays (step.ended .signature .params) (step.ended .kept)
 stayed = (stay-none (λ _. S′.the-row) yes, (stay-ref (0 ∷ []) tt (plain (λ _. C′.the-row)), (stay-none-ref (1 ∷ []) tt TableS yes, tt)))
-
--- a record's machine value
-abbrev sv : SweepModulate → Val
-sv = LL.val S′.the-type SL.the-laws
-
-abbrev cv : Channel → Val
-cv = LL.val C′.the-type CL.the-laws
 
 -- the contract that the proof cites
 abbrev SweepStep : {M : Type 1} (𝓤 : URA M) (H : Heap 𝓤) (A : Atoms 𝓤) (at-mem : Memory → SProp 𝓤) (run : Routine → Fun 𝓤) → Contract 𝓤
