@@ -138,10 +138,20 @@ fn lines_that_are_no_call() {
     assert_eq!(lines(b"image\r\n"), [b"image\r"]);
 }
 
-/// How a console is wrong.
-#[derive(Clone, Copy, Debug, PartialEq)]
-enum Fault {
-    None,
+/// How a console is wrong, and all the ways, named once.
+macro_rules! faults {
+    ($($(#[$what:meta])* $name:ident,)*) => {
+        #[derive(Clone, Copy, Debug, PartialEq)]
+        enum Fault {
+            None,
+            $($(#[$what])* $name,)*
+        }
+
+        const FAULTS: &[Fault] = &[$(Fault::$name,)*];
+    };
+}
+
+faults! {
     /// a seek back sends the writes again, and runs nothing in between
     RegistersAgain,
     /// a play begins with the log's first entry wherever it stands
@@ -341,22 +351,7 @@ fn a_console_in_the_players_way_agrees() {
 
 #[test]
 fn wrong_consoles_are_found() {
-    use Fault::*;
-    let faults = [
-        RegistersAgain,
-        FromFirstEntry,
-        AppliedOffByOne,
-        GoToLeavesState,
-        LeftSideOnly,
-        RestIsNoLine,
-        WritesOneLate,
-        ClearWrites,
-        ClearedNotUsedAgain,
-        RoomWithoutCounter,
-        RoomFirst,
-        RefusedPlayRuns,
-    ];
-    for fault in faults {
+    for &fault in FAULTS {
         let (number, what) = found(fault, 300).unwrap_or_else(|| panic!("{fault:?} is not found"));
         println!("{fault:?}: case {number} {what}");
     }
