@@ -30,11 +30,6 @@ pub neither : (a b : Bool) → (a || b) ≡ false → (a ≡ false) × (b ≡ fa
 neither true b h = absurd (true≢false h)
 neither false b h = (refl, h)
 
--- what a function makes of a choice is a choice of what it makes
-pub chosen : {A B : Type 0} (f : A → B) (t : Bool) {x y : A} {u v : B} → f x ≡ u → f y ≡ v → f (cond t x y) ≡ cond t u v
-chosen f true p q = p
-chosen f false p q = q
-
 -- one more index, where the first is known and the others are
 pub ahead : (P : ℕ → Type 0) (n i : ℕ) → P i → ((j : ℕ) → suc i ≤ j → j < suc i + n → P j) → (j : ℕ) → i ≤ j → j < i + suc n → P j
 ahead P n i p r j h g = go (ℕ-discrete i j)

@@ -1,5 +1,7 @@
 -- Document 01's table of refusals: each case's number, and the value that it carries (0 where it carries none).
 use Prim.Native.Nat.{ℕ}
+use mathlib.Core.Path.{_≡_}
+use mathlib.Core.Bool.{Bool, true, false}
 use Rattle.refusal.specs.declared.Answer.{Answer}
 use Rattle.refusal.specs.declared.Answer.the-variants.{Accepted, Refused}
 use Rattle.refusal.specs.declared.Refusal.{Refusal}
@@ -50,3 +52,19 @@ answerNumber (Refused r) = numberOf r
 abbrev pub answerCarried : Answer → ℕ
 answerCarried Accepted = 0
 answerCarried (Refused r) = carriedOf r
+
+-- An order of refusals, in 01's words: "1, then 2" is `fault a State then fault b Room`. The first fault in the order is the answer;
+-- without any the call is accepted.
+
+unfoldable pub fault : Bool → Refusal → Answer
+fault true why = Refused why
+fault false why = Accepted
+
+infixr 5 _then_
+unfoldable pub _then_ : Answer → Answer → Answer
+Accepted then later = later
+(Refused why) then later = Refused why
+
+-- an answer tells the number and the value of an order's first fault
+abbrev pub Tells : Answer → Answer → Type 0
+Tells answer order = (answerNumber answer ≡ answerNumber order) × (answerCarried answer ≡ answerCarried order)

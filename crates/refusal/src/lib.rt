@@ -28,26 +28,27 @@ pub enum Answer {
     Refused(Refusal),
 }
 
+// 01's number; the words beside it are what `./vsu` says of a refused log.
 pub fn number(r: Refusal) -> u32
     ensures { λ n. ⌜ n ≡ numberOf r ⌝ }
 {
     match r {
-        Refusal::State => 1,
-        Refusal::Room => 2,
-        Refusal::LogShort => 3,
-        Refusal::LogEdition => 4,
-        Refusal::LogHeader => 5,
-        Refusal::LogCount => 6,
-        Refusal::LogSize => 7,
-        Refusal::LogEntry(_) => 8,
-        Refusal::ImageSize => 9,
-        Refusal::ImageHeader => 10,
-        Refusal::ImageField(_) => 11,
-        Refusal::BeyondEnd => 12,
-        Refusal::Place => 13,
-        Refusal::MarkNumber => 14,
-        Refusal::MarkUnset => 15,
-        Refusal::MarksFull => 16,
+        Refusal::State => 1, // a state is out of range
+        Refusal::Room => 2, // there is too little room, or the log is too long for the program
+        Refusal::LogShort => 3, // the log is shorter than its header
+        Refusal::LogEdition => 4, // the log's edition is not known
+        Refusal::LogHeader => 5, // the log's header length or entry offset is wrong
+        Refusal::LogCount => 6, // the log has more than 1,000,000 entries
+        Refusal::LogSize => 7, // the log's size does not fit its count of entries
+        Refusal::LogEntry(_) => 8, // an entry of the log is at fault
+        Refusal::ImageSize => 9, // the image does not have 420 bytes
+        Refusal::ImageHeader => 10, // the image's header differs
+        Refusal::ImageField(_) => 11, // a field of the image is at fault
+        Refusal::BeyondEnd => 12, // the play or seek goes beyond the end of the log
+        Refusal::Place => 13, // the record or mark does not stand where the log has it
+        Refusal::MarkNumber => 14, // there is no such mark
+        Refusal::MarkUnset => 15, // the mark is not set
+        Refusal::MarksFull => 16, // all marks are set
     }
 }
 
