@@ -11,7 +11,7 @@ use lib.IntN.{ℤ, pos, negsuc, _+ℤ_, _-ℤ_}
 use mir.Syntax.{w8, w16}
 use mir.Val.{SFits, toZ, ofZ}
 use mir.Facts.{toZ-ofZ, sfits-widen}
-use Rattle.common.specs.Bits.{bits, signed, lifted}
+use Rattle.common.specs.Bits.{bits, signed, addend}
 
 -- the mask of a width below 8, as the machine makes it
 pub mask : {k : ℕ} → k < 8 → 1 * 2 ^ k % 256 ≡ 2 ^ k
@@ -55,15 +55,15 @@ module _ {b : ℕ} (h : 128 ≤ b) (g : b < 256) where
   signed-high = toZ-ofZ high-fits-byte ∙ toZ-ofZ high-fits ∙ byte-above h g ∙ rw (le-ltb b 128 h)
 
 -- a signed number as what it adds modulo 2048
-pub lifted-lt : (e : ℤ) → SFits w8 e → lifted e < 2176
-unfolding lifted
-lifted-lt (pos e) f = omega (arith, f .sfits)
-lifted-lt (negsuc e) f = omega arith
+pub addend-lt : (e : ℤ) → SFits w8 e → addend e < 2176
+unfolding addend
+addend-lt (pos e) f = omega (arith, f .sfits)
+addend-lt (negsuc e) f = omega arith
 
-lift-is : (e : ℤ) → SFits w8 e → e +ℤ pos 2048 ≡ pos (lifted e)
-unfolding lifted
-lift-is (pos e) f = refl
-lift-is (negsuc e) f = rw (le-ltb 2048 (suc e) (omega (arith, f .sfits))) (ap pos (omega arith))
+added-is : (e : ℤ) → SFits w8 e → e +ℤ pos 2048 ≡ pos (addend e)
+unfolding addend
+added-is (pos e) f = refl
+added-is (negsuc e) f = rw (le-ltb 2048 (suc e) (omega (arith, f .sfits))) (ap pos (omega arith))
 
 module _ (e : ℤ) (f : SFits w8 e) where
   entry-is : toZ w16 (ofZ w16 (toZ w8 (ofZ w8 e))) ≡ e
@@ -72,11 +72,11 @@ module _ (e : ℤ) (f : SFits w8 e) where
   pub entry-fits : SFits w16 (toZ w8 (ofZ w8 e))
   entry-fits = rw (toZ-ofZ f) (sfits-widen tt f)
 
-  lifted-is : toZ w16 (ofZ w16 (toZ w8 (ofZ w8 e))) +ℤ pos 2048 ≡ pos (lifted e)
-  lifted-is = ap (λ (z : ℤ). z +ℤ pos 2048) entry-is ∙ lift-is e f
+  addend-is : toZ w16 (ofZ w16 (toZ w8 (ofZ w8 e))) +ℤ pos 2048 ≡ pos (addend e)
+  addend-is = ap (λ (z : ℤ). z +ℤ pos 2048) entry-is ∙ added-is e f
 
   pub sum-fits : SFits w16 (toZ w16 (ofZ w16 (toZ w8 (ofZ w8 e))) +ℤ pos 2048)
-  sum-fits = rw lifted-is (record { sfits = omega (arith, lifted-lt e f) })
+  sum-fits = rw addend-is (record { sfits = omega (arith, addend-lt e f) })
 
-  pub sum-is : toZ w16 (ofZ w16 (toZ w16 (ofZ w16 (toZ w8 (ofZ w8 e))) +ℤ pos 2048)) ≡ pos (lifted e)
-  sum-is = toZ-ofZ sum-fits ∙ lifted-is
+  pub sum-is : toZ w16 (ofZ w16 (toZ w16 (ofZ w16 (toZ w8 (ofZ w8 e))) +ℤ pos 2048)) ≡ pos (addend e)
+  sum-is = toZ-ofZ sum-fits ∙ addend-is

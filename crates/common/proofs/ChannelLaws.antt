@@ -9,7 +9,7 @@ use borrow.Author.Tests.{lt-leb, le-leb, lt-ltb, le-ltb, ne-eqb, leb-true, leb-f
 use borrow.Author.Needs.{needs}
 use lib.Dec.{eqb, leb, ltb}
 use Rattle.laws.proofs.Cases.{each, ways}
-use Rattle.common.specs.Channel.{stopped, withLive, withPitch, withEnvelope, liveInRange, pitchInRange, envelopeInRange, channelInRange, side, liveStep, liveTicked, liveWith, pitchStep, pitchTicked, pitchWith, envelopeStep, envelopeTicked, envelopeWith, nextLevel, amplitudeOf, channelWrite, writeInterval, writeVolumes, writeLow, writeHigh, writeEnvelope, writeEnvelopeMode}
+use Rattle.common.specs.Channel.{playOff, withLive, withPitch, withEnvelope, liveInRange, pitchInRange, envelopeInRange, channelInRange, side, liveStep, liveTicked, withTickCounterPlaying, pitchStep, pitchTicked, withTickCounter, envelopeStep, envelopeTicked, withTickStepLevel, nextLevel, amplitudeOf, channelWrite, writeInterval, writeVolumes, writeLow, writeHigh, writeEnvelope, writeEnvelopeMode}
 use Rattle.common.specs.declared.channel.Channel.{Channel}
 use Rattle.common.specs.declared.channel.Live.{Live}
 use Rattle.common.specs.declared.channel.Pitch.{Pitch}
@@ -28,31 +28,31 @@ module _ (l : Live) where
   live-endless p a = rw (p, a)
 
   module _ (p : l .playing ≡ true) (a : l .auto ≡ true) where
-    pub live-counts : l .tick < 76804 → liveWith l (l .tick + 1) (l .counter) (l .playing) ≡ liveStep l
+    pub live-counts : l .tick < 76804 → withTickCounterPlaying l (l .tick + 1) (l .counter) (l .playing) ≡ liveStep l
     unfolding liveStep
     live-counts t = rw (p, a, lt-leb 76805 (l .tick + 1) (omega arith))
 
-    pub live-ticks : 76804 ≤ l .tick → l .counter < l .interval → liveWith l 0 (l .counter + 1) (l .playing) ≡ liveStep l
+    pub live-ticks : 76804 ≤ l .tick → l .counter < l .interval → withTickCounterPlaying l 0 (l .counter + 1) (l .playing) ≡ liveStep l
     unfolding liveStep liveTicked
     live-ticks t i = rw (p, a, le-leb 76805 (l .tick + 1) (omega arith), lt-leb (l .interval + 1) (l .counter + 1) (omega arith))
 
-    pub live-stops : 76804 ≤ l .tick → l .interval ≤ l .counter → liveWith l 0 0 false ≡ liveStep l
+    pub live-stops : 76804 ≤ l .tick → l .interval ≤ l .counter → withTickCounterPlaying l 0 0 false ≡ liveStep l
     unfolding liveStep liveTicked
     live-stops t i = rw (p, a, le-leb 76805 (l .tick + 1) (omega arith), le-leb (l .interval + 1) (l .counter + 1) (omega arith))
 
 -- step 2
 
 module _ (p : Pitch) (frequency period : ℕ) where
-  pub pitch-counts : p .tick + 1 < period → record { pitch = pitchWith p (p .tick + 1) (p .counter); due = false } ≡ pitchStep period frequency p
+  pub pitch-counts : p .tick + 1 < period → record { pitch = withTickCounter p (p .tick + 1) (p .counter); due = false } ≡ pitchStep period frequency p
   unfolding pitchStep
   pitch-counts t = rw (lt-leb period (p .tick + 1) t)
 
   module _ (t : period ≤ p .tick + 1) where
-    pub pitch-ticks : p .counter + frequency < 2047 → record { pitch = pitchWith p 0 (p .counter + 1); due = false } ≡ pitchStep period frequency p
+    pub pitch-ticks : p .counter + frequency < 2047 → record { pitch = withTickCounter p 0 (p .counter + 1); due = false } ≡ pitchStep period frequency p
     unfolding pitchStep pitchTicked
     pitch-ticks f = rw (le-leb period (p .tick + 1) t, le-ltb (2047 - frequency) (p .counter + 1) (omega arith))
 
-    pub pitch-due : 2047 ≤ p .counter + frequency → record { pitch = pitchWith p 0 0; due = true } ≡ pitchStep period frequency p
+    pub pitch-due : 2047 ≤ p .counter + frequency → record { pitch = withTickCounter p 0 0; due = true } ≡ pitchStep period frequency p
     unfolding pitchStep pitchTicked
     pitch-due f = rw (le-leb period (p .tick + 1) t, lt-ltb (2047 - frequency) (p .counter + 1) (omega arith))
 
@@ -67,7 +67,7 @@ module _ (e : Envelope) where
   unfolding nextLevel
   level-down u l = rw (u, lt-ltb 0 (e .level) l)
 
-  -- "We must be at 0 or 15"
+  -- the level is at 15, or at 0
   pub level-top : e .up ≡ true → 15 ≤ e .level → {b : Bool} → e .looped ≡ b → cond b (e .reload) (e .level) ≡ nextLevel e
   unfolding nextLevel
   level-top u l h = rw (u, le-ltb (e .level) 15 l, h)
@@ -76,21 +76,21 @@ module _ (e : Envelope) where
   unfolding nextLevel
   level-bottom u l h = rw (u, le-ltb 0 (e .level) l, h)
 
-  pub envelope-counts : e .tick < 307218 → envelopeWith e (e .tick + 1) (e .step) (e .level) ≡ envelopeStep e
+  pub envelope-counts : e .tick < 307218 → withTickStepLevel e (e .tick + 1) (e .step) (e .level) ≡ envelopeStep e
   unfolding envelopeStep
   envelope-counts t = rw (lt-leb 307219 (e .tick + 1) (omega arith))
 
   module _ (t : 307218 ≤ e .tick) where
-    pub envelope-off : e .on ≡ false → envelopeWith e 0 (e .step) (e .level) ≡ envelopeStep e
+    pub envelope-off : e .on ≡ false → withTickStepLevel e 0 (e .step) (e .level) ≡ envelopeStep e
     unfolding envelopeStep envelopeTicked
     envelope-off o = rw (le-leb 307219 (e .tick + 1) (omega arith), o)
 
     module _ (o : e .on ≡ true) where
-      pub envelope-ticks : e .step < e .interval → envelopeWith e 0 (e .step + 1) (e .level) ≡ envelopeStep e
+      pub envelope-ticks : e .step < e .interval → withTickStepLevel e 0 (e .step + 1) (e .level) ≡ envelopeStep e
       unfolding envelopeStep envelopeTicked
       envelope-ticks i = rw (le-leb 307219 (e .tick + 1) (omega arith), o, lt-leb (e .interval + 1) (e .step + 1) (omega arith))
 
-      pub envelope-moves : e .interval ≤ e .step → {level : ℕ} → level ≡ nextLevel e → envelopeWith e 0 0 level ≡ envelopeStep e
+      pub envelope-moves : e .interval ≤ e .step → {level : ℕ} → level ≡ nextLevel e → withTickStepLevel e 0 0 level ≡ envelopeStep e
       unfolding envelopeStep envelopeTicked
       envelope-moves i l = rw (l, le-leb 307219 (e .tick + 1) (omega arith), o, le-leb (e .interval + 1) (e .step + 1) (omega arith))
 
@@ -287,7 +287,7 @@ module _ (most : ℕ) (c : Channel) (h : channelInRange most c ≡ true) where
   pub channel-envelope-keeps : channelInRange most (withEnvelope c (envelopeStep (c .envelope))) ≡ true
   channel-envelope-keeps = let k : ChannelOk most c = ok in channel-test (search (needs, envelope-ok))
 
-  pub channel-stop-keeps : channelInRange most (stopped c) ≡ true
+  pub channel-stop-keeps : channelInRange most (playOff c) ≡ true
   unfolding channelInRange liveInRange
   channel-stop-keeps = h
 

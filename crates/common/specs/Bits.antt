@@ -16,9 +16,9 @@ unfoldable pub signed : ℕ → ℤ
 signed b = cond (ltb b 128) (pos b) (negsuc (255 - b))
 
 -- an entry that is added modulo 2048, as a number that is not below 0: `negsuc e` is -(e + 1)
-unfoldable pub lifted : ℤ → ℕ
-lifted (pos e) = e + 2048
-lifted (negsuc e) = 2047 - e
+unfoldable pub addend : ℤ → ℕ
+addend (pos e) = e + 2048
+addend (negsuc e) = 2047 - e
 
 -- "low frequency byte"
 abbrev pub withLow : ℕ → ℕ → ℕ

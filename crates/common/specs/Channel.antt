@@ -10,7 +10,7 @@ use Rattle.common.specs.declared.channel.Pitched.{Pitched}
 use Rattle.common.specs.declared.channel.Envelope.{Envelope}
 use Rattle.common.specs.declared.channel.Channel.{Channel}
 
--- A record with some of its fields changed.
+-- A record with some of its fields changed: each name says which.
 
 abbrev pub withLive : Channel → Live → Channel
 withLive c l = record { live = l; pitch = c .pitch; envelope = c .envelope; left = c .left; right = c .right }
@@ -24,19 +24,19 @@ withEnvelope c e = record { live = c .live; pitch = c .pitch; envelope = e; left
 abbrev pub withVolumes : Channel → ℕ → ℕ → Channel
 withVolumes c l r = record { live = c .live; pitch = c .pitch; envelope = c .envelope; left = l; right = r }
 
-abbrev pub liveWith : Live → ℕ → ℕ → Bool → Live
-liveWith l tick counter playing = record { tick = tick; interval = l .interval; counter = counter; auto = l .auto; playing = playing }
+abbrev pub withTickCounterPlaying : Live → ℕ → ℕ → Bool → Live
+withTickCounterPlaying l tick counter playing = record { tick = tick; interval = l .interval; counter = counter; auto = l .auto; playing = playing }
 
-abbrev pub pitchWith : Pitch → ℕ → ℕ → Pitch
-pitchWith p tick counter = record { tick = tick; frequency = p .frequency; counter = counter }
+abbrev pub withTickCounter : Pitch → ℕ → ℕ → Pitch
+withTickCounter p tick counter = record { tick = tick; frequency = p .frequency; counter = counter }
 
-abbrev pub envelopeWith : Envelope → ℕ → ℕ → ℕ → Envelope
-envelopeWith e tick step level =
+abbrev pub withTickStepLevel : Envelope → ℕ → ℕ → ℕ → Envelope
+withTickStepLevel e tick step level =
     record { tick = tick; interval = e .interval; step = step; level = level; reload = e .reload; up = e .up; on = e .on; looped = e .looped }
 
 -- "play off"
-abbrev pub stopped : Channel → Channel
-stopped c = withLive c (liveWith (c .live) (c .live .tick) (c .live .counter) false)
+abbrev pub playOff : Channel → Channel
+playOff c = withLive c (withTickCounterPlaying (c .live) (c .live .tick) (c .live .counter) false)
 
 -- Register writes.
 
@@ -46,8 +46,8 @@ unfoldable pub writeInterval : ℕ → Channel → Channel
 writeInterval b c =
     record {
       live = record { tick = c .live .tick; interval = bits 0 5 b; counter = bits 0 5 b; auto = bit 5 b; playing = bit 7 b };
-      pitch = pitchWith (c .pitch) (c .pitch .tick) 0;
-      envelope = envelopeWith (c .envelope) (c .envelope .tick) 0 (c .envelope .level);
+      pitch = withTickCounter (c .pitch) (c .pitch .tick) 0;
+      envelope = withTickStepLevel (c .envelope) (c .envelope .tick) 0 (c .envelope .level);
       left = c .left;
       right = c .right;
     }
@@ -110,25 +110,25 @@ channelWrite offset b c =
 
 -- "the counter goes up by 1; if that is at least interval + 1, play off and counter 0"
 unfoldable pub liveTicked : Live → Live
-liveTicked l = cond (leb (l .interval + 1) (l .counter + 1)) (liveWith l 0 0 false) (liveWith l 0 (l .counter + 1) (l .playing))
+liveTicked l = cond (leb (l .interval + 1) (l .counter + 1)) (withTickCounterPlaying l 0 0 false) (withTickCounterPlaying l 0 (l .counter + 1) (l .playing))
 
 -- "1. Each channel that plays with auto-stop: live tick +1; at 76,805 it becomes 0"
 unfoldable pub liveStep : Live → Live
 liveStep l =
     cond (l .playing && l .auto)
-    (cond (leb liveTick (l .tick + 1)) (liveTicked l) (liveWith l (l .tick + 1) (l .counter) (l .playing)))
+    (cond (leb liveTick (l .tick + 1)) (liveTicked l) (withTickCounterPlaying l (l .tick + 1) (l .counter) (l .playing)))
     l
 
 -- "frequency counter +1; if that exceeds 2047 - frequency, counter 0 and next sample"
 unfoldable pub pitchTicked : ℕ → Pitch → Pitched
 pitchTicked frequency p =
-    cond (ltb (2047 - frequency) (p .counter + 1)) (record { pitch = pitchWith p 0 0; due = true })
-    (record { pitch = pitchWith p 0 (p .counter + 1); due = false })
+    cond (ltb (2047 - frequency) (p .counter + 1)) (record { pitch = withTickCounter p 0 0; due = true })
+    (record { pitch = withTickCounter p 0 (p .counter + 1); due = false })
 
 -- "2. Each channel, playing or not: tick +1; at 4 (noise 40) tick 0"
 unfoldable pub pitchStep : ℕ → ℕ → Pitch → Pitched
 pitchStep period frequency p =
-    cond (leb period (p .tick + 1)) (pitchTicked frequency p) (record { pitch = pitchWith p (p .tick + 1) (p .counter); due = false })
+    cond (leb period (p .tick + 1)) (pitchTicked frequency p) (record { pitch = withTickCounter p (p .tick + 1) (p .counter); due = false })
 
 -- "the level goes one up (below 15) or down (above 0), else to the reload if looping"
 unfoldable pub nextLevel : Envelope → ℕ
@@ -140,12 +140,12 @@ nextLevel e =
 unfoldable pub envelopeTicked : Envelope → Envelope
 envelopeTicked e =
     cond (e .on)
-    (cond (leb (e .interval + 1) (e .step + 1)) (envelopeWith e 0 0 (nextLevel e)) (envelopeWith e 0 (e .step + 1) (e .level)))
-    (envelopeWith e 0 (e .step) (e .level))
+    (cond (leb (e .interval + 1) (e .step + 1)) (withTickStepLevel e 0 0 (nextLevel e)) (withTickStepLevel e 0 (e .step + 1) (e .level)))
+    (withTickStepLevel e 0 (e .step) (e .level))
 
 -- "3. Each channel: envelope tick +1; at 307,219 tick 0"
 unfoldable pub envelopeStep : Envelope → Envelope
-envelopeStep e = cond (leb envelopeTick (e .tick + 1)) (envelopeTicked e) (envelopeWith e (e .tick + 1) (e .step) (e .level))
+envelopeStep e = cond (leb envelopeTick (e .tick + 1)) (envelopeTicked e) (withTickStepLevel e (e .tick + 1) (e .step) (e .level))
 
 -- "A side of a voice: a = level × volume / 8, cut, plus 1 if both are above 0; a × sample / 2, cut."
 unfoldable pub amplitudeOf : ℕ → ℕ → ℕ

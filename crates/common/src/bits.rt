@@ -1,7 +1,7 @@
 // What the Rust's `bitfield!` does: shifts and masks that unpack a register byte.
 ghost use mathlib.Core.Path.{_≡_};
 ghost use Prim.Native.Nat.{_/_, _^_};
-ghost use Rattle.common.specs.Bits.{bits, bit, signed, lifted, withLow, withHigh};
+ghost use Rattle.common.specs.Bits.{bits, bit, signed, addend, withLow, withHigh};
 
 // `width` bits of `value`, from bit `from` up.
 pub fn field(value: u8, from: u8, width: u8) -> u8
@@ -41,8 +41,8 @@ pub fn signed(value: u8) -> i8
 }
 
 // What the entry adds modulo 2048, as a number that is not below 0.
-pub fn lifted(entry: i8) -> u16
-    ensures { λ r. ⌜ r ≡ lifted entry ⌝ }
+pub fn addend(entry: i8) -> u16
+    ensures { λ r. ⌜ r ≡ addend entry ⌝ }
 {
     (entry as i16 + 2048) as u16
 }

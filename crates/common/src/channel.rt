@@ -1,7 +1,7 @@
 // What each of the six voices has: the Rust's `Channel`, in the parts that a step touches.
 ghost use mathlib.Core.Path.{_≡_};
-ghost use Prim.Native.Nat.{_<_};
-ghost use Rattle.common.specs.Channel.{writeInterval, writeVolumes, writeLow, writeHigh, writeEnvelope, writeEnvelopeMode, channelWrite, liveStep, pitchStep, nextLevel, envelopeStep, amplitudeOf, side, liveInRange, pitchInRange, envelopeInRange, channelInRange};
+ghost use Prim.Native.Nat.{_≤_};
+ghost use Rattle.common.specs.Channel.{playOff, writeInterval, writeVolumes, writeLow, writeHigh, writeEnvelope, writeEnvelopeMode, channelWrite, liveStep, pitchStep, nextLevel, envelopeStep, amplitudeOf, side, liveInRange, pitchInRange, envelopeInRange, channelInRange};
 use crate::bits;
 use crate::constants::ENVELOPE_CYCLE_COUNT;
 use crate::constants::SOUND_LIVE_INTERVAL_CYCLE_COUNT;
@@ -45,7 +45,18 @@ pub struct Pitched {
     pub due: bool,
 }
 
-pub fn set_live(c: Channel, value: u8) -> Channel
+// "play off": the one function that stops a record.
+pub fn play_off(c: Channel) -> Channel
+    ensures { λ r. ⌜ r ≡ playOff c ⌝ }
+{
+    let mut live = c.live;
+    live.playing = false;
+    let mut d = c;
+    d.live = live;
+    d
+}
+
+fn set_live(c: Channel, value: u8) -> Channel
     ensures { λ r. ⌜ r ≡ writeInterval value c ⌝ }
 {
     let mut live = c.live;
@@ -64,7 +75,7 @@ pub fn set_live(c: Channel, value: u8) -> Channel
     d
 }
 
-pub fn set_volume(c: Channel, value: u8) -> Channel
+fn set_volume(c: Channel, value: u8) -> Channel
     ensures { λ r. ⌜ r ≡ writeVolumes value c ⌝ }
 {
     let mut d = c;
@@ -73,7 +84,7 @@ pub fn set_volume(c: Channel, value: u8) -> Channel
     d
 }
 
-pub fn set_low(c: Channel, value: u8) -> Channel
+fn set_low(c: Channel, value: u8) -> Channel
     ensures { λ r. ⌜ r ≡ writeLow value c ⌝ }
 {
     let mut pitch = c.pitch;
@@ -83,7 +94,7 @@ pub fn set_low(c: Channel, value: u8) -> Channel
     d
 }
 
-pub fn set_high(c: Channel, value: u8) -> Channel
+fn set_high(c: Channel, value: u8) -> Channel
     ensures { λ r. ⌜ r ≡ writeHigh value c ⌝ }
 {
     let mut pitch = c.pitch;
@@ -93,7 +104,7 @@ pub fn set_high(c: Channel, value: u8) -> Channel
     d
 }
 
-pub fn set_envelope(c: Channel, value: u8) -> Channel
+fn set_envelope(c: Channel, value: u8) -> Channel
     ensures { λ r. ⌜ r ≡ writeEnvelope value c ⌝ }
 {
     let mut e = c.envelope;
@@ -106,7 +117,7 @@ pub fn set_envelope(c: Channel, value: u8) -> Channel
     d
 }
 
-pub fn set_envelope_mode(c: Channel, value: u8) -> Channel
+fn set_envelope_mode(c: Channel, value: u8) -> Channel
     ensures { λ r. ⌜ r ≡ writeEnvelopeMode value c ⌝ }
 {
     let mut e = c.envelope;
@@ -183,7 +194,7 @@ pub fn pitch_step(p: Pitch, frequency: u16, period: u32) -> Pitched
     }
 }
 
-pub fn next_level(e: Envelope) -> u8
+fn next_level(e: Envelope) -> u8
     ensures { λ r. ⌜ r ≡ nextLevel e ⌝ }
 {
     if e.up {
@@ -230,26 +241,26 @@ fn amplitude(level: u8, volume: u8) -> u32
     product / 8
 }
 
-// One side of a voice.
+// One side of a voice. Whatever the bytes, six of them fit a u32.
 pub fn sample_side(level: u8, volume: u8, output: u8) -> u32
-    ensures { λ r. ⌜ r ≡ side level volume output ⌝ }
+    ensures { λ r. ⌜ (r ≡ side level volume output) × (r ≤ 1036447) ⌝ }
 {
     amplitude(level, volume) * (output as u32) / 2
 }
 
-pub fn live_in_range(l: Live) -> bool
+fn live_in_range(l: Live) -> bool
     ensures { λ r. ⌜ r ≡ liveInRange l ⌝ }
 {
     (l.tick <= 76_804) & (l.interval <= 31) & (l.counter <= 31)
 }
 
-pub fn pitch_in_range(p: Pitch, most: u32) -> bool
+fn pitch_in_range(p: Pitch, most: u32) -> bool
     ensures { λ r. ⌜ r ≡ pitchInRange most p ⌝ }
 {
     (p.tick <= most) & (p.frequency <= 2047) & (p.counter <= 2047)
 }
 
-pub fn envelope_in_range(e: Envelope) -> bool
+fn envelope_in_range(e: Envelope) -> bool
     ensures { λ r. ⌜ r ≡ envelopeInRange e ⌝ }
 {
     (e.tick <= 307_218) & (e.interval <= 7) & (e.step <= 7) & (e.level <= 15) & (e.reload <= 15)

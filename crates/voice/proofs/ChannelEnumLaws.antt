@@ -1,28 +1,31 @@
 -- The cases of the definitions of specs/ChannelEnum.antt, one law each, over plain variables; then, that a voice in range stays in range.
 use Prim.Native.Nat.{ℕ, zero, suc, _+_, _*_, _/_, _%_, _^_, _<_, _≤_}
-use mathlib.Core.Path.{_≡_, refl, ap, _∙_}
+use mathlib.Core.Path.{_≡_, refl, sym, ap, _∙_}
 use mathlib.Core.Bool.{Bool, true, false, cond, _&&_, Bool·beq, false≢true, and-eq-true-iff}
 use mathlib.Core.List.{List, [], _∷_}
+use native.Mathlib.Numerals.{add-one}
 use native.Mathlib.Omega.{arith}
 use native.Mathlib.Nat.{add-zero}
 use borrow.Author.Tests.{eq-eqb, ne-eqb, le-leb, leb-true}
 use lib.Dec.{eqb, leb, ltb}
 use lib.IntN.{ℤ}
-use lib.ListN.{length, getD}
+use lib.ListN.{length, getD, drop, drop-of-length-le}
+use lib.Seq.{drop-cons}
 use Rattle.common.proofs.ChannelLaws.{side-le, channel-live-keeps, channel-pitch-keeps, channel-envelope-keeps, channel-stop-keeps, channel-write-keeps, level-le, left-le, right-le}
-use Rattle.voice.proofs.SweepModulateLaws.{sweep-write-keeps, sweep-step-keeps, sweep-step-channel}
+use Rattle.sweep.proofs.SweepModulateLaws.{sweep-write-keeps, sweep-step-keeps, sweep-step-channel}
 use Rattle.laws.proofs.Cases.{both, each, ways}
 use Rattle.common.specs.Bits.{bits}
-use Rattle.common.specs.Channel.{stopped, withPitch, pitchStep, side, channelInRange}
-use Rattle.voice.specs.ChannelEnum.{voiceOf, taps, bankWrite, positionWrite, noiseWrite, kindWrite, tickOf, frequencyOf, newBit, clocked, nextSample, sampled, stepFrequency, stepSweepOf, stepSweep, isTap, waveKindInRange, sweptKindInRange, noiseKindInRange, sampleOf, heard, stepAutoStop, stepEnvelope, voiceWrite, waveInRange, sweptInRange, noiseInRange}
-use Rattle.voice.specs.SweepModulate.{sweepInRange}
+use Rattle.common.specs.Channel.{withPitch, pitchStep, side, channelInRange}
+use Rattle.voice.specs.ChannelEnum.{voiceOf, stopVoice, taps, isIn, waveWrite, noiseWrite, kindWrite, periodOf, frequencyOf, newBit, clocked, nextSample, sampled, stepFrequency, stepSweepOf, stepSweep, isTap, waveKindInRange, sweptKindInRange, noiseKindInRange, sampleOf, heard, stepAutoStop, stepEnvelope, voiceWrite, waveInRange, sweptInRange, noiseInRange}
+use Rattle.sweep.specs.SweepModulate.{sweepInRange}
 use Rattle.voice.specs.Waveform.{sampleAt}
 use Rattle.common.specs.declared.channel.Channel.{Channel}
 use Rattle.common.specs.declared.channel.Pitched.{Pitched}
 use Rattle.voice.specs.declared.channel_enum.Kind.{Kind}
 use Rattle.voice.specs.declared.channel_enum.Kind.the-variants.{Wave, Swept, Noise}
+use Rattle.voice.specs.declared.channel_enum.Reading.{Reading}
 use Rattle.voice.specs.declared.channel_enum.Voice.{Voice}
-use Rattle.voice.specs.declared.sweep_modulate.SweepModulate.{SweepModulate}
+use Rattle.sweep.specs.declared.sweep_modulate.SweepModulate.{SweepModulate}
 
 -- the noise's shift register
 
@@ -38,13 +41,37 @@ module _ (shift tap : ℕ) {source tapped : ℕ} (p : source ≡ shift / 2 ^ 7) 
   unfolding clocked
   clocked-off e = rw (doubled, ← p, ← q, ne-eqb (source % 2) (tapped % 2) e, add-zero)
 
+-- whether a number is in a list, from the front
+
+module _ (x : ℕ) (l : List ℕ) (i : ℕ) (h : i < length l) where
+  pub found-here : x ≡ getD l i 0 → isIn x l ≡ isIn x (drop i l) → true ≡ isIn x l
+  found-here p e = sym (e ∙ rw (drop-cons l i 0 h, eq-eqb x (getD l i 0) p))
+
+  pub found-later : (x ≡ getD l i 0 → ⊥) → isIn x l ≡ isIn x (drop i l) → isIn x l ≡ isIn x (drop (i + 1) l)
+  found-later p e = e ∙ rw (drop-cons l i 0 h, ne-eqb x (getD l i 0) p, add-one i)
+
+pub found-nowhere : (x : ℕ) (l : List ℕ) (i : ℕ) → length l ≤ i → isIn x l ≡ isIn x (drop i l) → false ≡ isIn x l
+found-nowhere x l i h e = sym (e ∙ rw (drop-of-length-le l h))
+
+abbrev allLe : ℕ → List ℕ → Bool
+allLe most [] = true
+allLe most (x ∷ xs) = leb x most && allLe most xs
+
+element-le : (most : ℕ) (l : List ℕ) → allLe most l ≡ true → (i : ℕ) → getD l i 0 ≤ most
+element-le most [] h i = omega arith
+element-le most (x ∷ l) h zero = leb-true x most (and-eq-true-iff (leb x most) (allLe most l) .0 h .0)
+element-le most (x ∷ l) h (suc i) = element-le most l (and-eq-true-iff (leb x most) (allLe most l) .0 h .1) i
+
+pub tap-le : (i : ℕ) → getD taps i 0 ≤ 14
+tap-le = element-le 14 taps refl
+
 -- step 2
 
 module _
     (v : Voice)
     {tick frequency : ℕ}
     {p : Pitched}
-    (t : tick ≡ tickOf (v .kind))
+    (t : tick ≡ periodOf (v .kind))
     (f : frequency ≡ frequencyOf (v .channel .pitch .frequency) (v .kind))
     (e : p ≡ pitchStep tick frequency (v .channel .pitch))
   where
@@ -117,21 +144,19 @@ tap-in (t ∷ ts) zero a h = and-eq-true-iff (isTap t) (areTaps ts) .0 a .0
 tap-in (t ∷ ts) (suc n) a h = tap-in ts n (and-eq-true-iff (isTap t) (areTaps ts) .0 a .1) (omega arith)
 
 module _ (o b : ℕ) where
-  bank-ok : {n : ℕ} → n ≤ 7 → bankWrite o b n ≤ 7
-  unfolding bankWrite
-  bank-ok h = ways (λ n. n ≤ 7) (eqb o 0x18) (λ _. omega arith) (λ _. h)
-
-  position-ok : {n : ℕ} → n ≤ 31 → positionWrite o n ≤ 31
-  unfolding positionWrite
-  position-ok h = ways (λ n. n ≤ 31) (eqb o 0x00) (λ _. omega arith) (λ _. h)
+  reading-ok : {n p : ℕ} → n ≤ 7 → p ≤ 31 → (waveWrite o b n p .bank ≤ 7) × (waveWrite o b n p .position ≤ 31)
+  unfolding waveWrite
+  reading-ok h g =
+      ways (λ (r : Reading). (r .bank ≤ 7) × (r .position ≤ 31)) (eqb o 0x00) (λ _. (h, omega arith)) (λ _.
+      ways (λ (r : Reading). (r .bank ≤ 7) × (r .position ≤ 31)) (eqb o 0x18) (λ _. (omega arith, g)) (λ _. (h, g)))
 
   wave-write : {k : Kind} → WaveOk k → WaveOk (kindWrite o b k)
   unfolding kindWrite
-  wave-write (wave n p) = wave (bank-ok n) (position-ok p)
+  wave-write (wave n p) = wave (reading-ok n p .0) (reading-ok n p .1)
 
   swept-write : {k : Kind} → b < 256 → SweptOk k → SweptOk (kindWrite o b k)
   unfolding kindWrite
-  swept-write l (swept n p s) = swept (bank-ok n) (position-ok p) (sweep-write-keeps _ s o b l)
+  swept-write l (swept n p s) = swept (reading-ok n p .0) (reading-ok n p .1) (sweep-write-keeps _ s o b l)
 
   noise-write : {k : Kind} → NoiseOk k → NoiseOk (kindWrite o b k)
   unfolding kindWrite noiseWrite
@@ -194,13 +219,13 @@ module _ (k : Kind) where
 -- what a voice adds to a side
 
 module _ (waves : List ℕ) (volume : ℕ) (v : Voice) where
-  pub heard-silent : v .channel .live .playing ≡ false → 0 ≡ heard waves volume v
+  pub heard-silent : v .channel .live .playing ≡ false → (0 ≡ heard waves volume v) × (0 ≤ 1036447)
   unfolding heard
-  heard-silent p = rw p
+  heard-silent p = (rw p, omega arith)
 
-  pub heard-playing : v .channel .live .playing ≡ true → {s x : ℕ} → x ≡ side (v .channel .envelope .level) volume s → s ≡ sampleOf waves (v .kind) → x ≡ heard waves volume v
+  pub heard-playing : v .channel .live .playing ≡ true → {s x : ℕ} → (x ≡ side (v .channel .envelope .level) volume s) × (x ≤ 1036447) → s ≡ sampleOf waves (v .kind) → (x ≡ heard waves volume v) × (x ≤ 1036447)
   unfolding heard
-  heard-playing p e q = rw (e, q, p)
+  heard-playing p e q = (rw (e .0, q, p), e .1)
 
 -- and the most that it adds, of waves whose samples are at most 63
 
@@ -226,7 +251,7 @@ pub record Kept (R : Voice → Bool) : Type 0 where
   pub auto-stop : (v : Voice) → R v ≡ true → R (stepAutoStop v) ≡ true
   pub frequency-step : (v : Voice) → R v ≡ true → R (stepFrequency v) ≡ true
   pub envelope-on : (v : Voice) → R v ≡ true → R (stepEnvelope v) ≡ true
-  pub stop : (v : Voice) → R v ≡ true → R (voiceOf (stopped (v .channel)) (v .kind)) ≡ true
+  pub stop : (v : Voice) → R v ≡ true → R (stopVoice v) ≡ true
   pub write : (v : Voice) → R v ≡ true → (o b : ℕ) → b < 256 → R (voiceWrite o b v) ≡ true
   pub level : (v : Voice) → R v ≡ true → v .channel .envelope .level ≤ 15
   pub left : (v : Voice) → R v ≡ true → v .channel .left ≤ 15
@@ -241,7 +266,7 @@ module _ (most : ℕ) (K : Kind → Bool) where
     kind-of = and-eq-true-iff (channelInRange most (v .channel)) (K (v .kind)) .0 h .1
 
   module _
-      (tick : (k : Kind) → K k ≡ true → tickOf k ≤ most + 1)
+      (tick : (k : Kind) → K k ≡ true → periodOf k ≤ most + 1)
       (next : (k : Kind) → K k ≡ true → K (nextSample k) ≡ true)
       (write : (k : Kind) → K k ≡ true → (o b : ℕ) → b < 256 → K (kindWrite o b k) ≡ true)
     where
@@ -268,16 +293,16 @@ module _ (most : ℕ) (K : Kind → Bool) where
             right = λ v h. right-le most _ (channel-of v h);
           }
 
-wave-tick : {k : Kind} → WaveOk k → tickOf k ≤ 4
-unfolding tickOf
+wave-tick : {k : Kind} → WaveOk k → periodOf k ≤ 4
+unfolding periodOf
 wave-tick (wave n p) = omega arith
 
-swept-tick : {k : Kind} → SweptOk k → tickOf k ≤ 4
-unfolding tickOf
+swept-tick : {k : Kind} → SweptOk k → periodOf k ≤ 4
+unfolding periodOf
 swept-tick (swept n p s) = omega arith
 
-noise-tick : {k : Kind} → NoiseOk k → tickOf k ≤ 40
-unfolding tickOf
+noise-tick : {k : Kind} → NoiseOk k → periodOf k ≤ 40
+unfolding periodOf
 noise-tick (noise n t q) = omega arith
 
 pub wave-kept : Kept waveInRange

@@ -1,3 +1,1 @@
-mod LentRecord
-pub mod SweepModulateLaws
 pub mod ChannelEnumLaws

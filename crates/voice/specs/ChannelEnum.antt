@@ -6,19 +6,28 @@ use lib.Dec.{eqb, leb}
 use lib.ListN.{getD}
 use lib.IntN.{ℤ}
 use Rattle.common.specs.Bits.{bits}
-use Rattle.common.specs.Channel.{withLive, withPitch, withEnvelope, channelWrite, liveStep, pitchStep, envelopeStep, side, channelInRange}
+use Rattle.common.specs.Channel.{playOff, withLive, withPitch, withEnvelope, channelWrite, liveStep, pitchStep, envelopeStep, side, channelInRange}
 use Rattle.voice.specs.Constants.{waveTick, noiseTick}
-use Rattle.voice.specs.SweepModulate.{sweepWrite, sweepStep, sweepInRange}
+use Rattle.sweep.specs.SweepModulate.{sweepWrite, sweepStep, sweepInRange}
 use Rattle.voice.specs.Waveform.{sampleAt}
 use Rattle.common.specs.declared.channel.Channel.{Channel}
 use Rattle.common.specs.declared.channel.Pitched.{Pitched}
-use Rattle.voice.specs.declared.sweep_modulate.Stepped.{Stepped}
+use Rattle.sweep.specs.declared.sweep_modulate.Stepped.{Stepped}
 use Rattle.voice.specs.declared.channel_enum.Kind.{Kind}
 use Rattle.voice.specs.declared.channel_enum.Kind.the-variants.{Wave, Swept, Noise}
+use Rattle.voice.specs.declared.channel_enum.Reading.{Reading}
 use Rattle.voice.specs.declared.channel_enum.Voice.{Voice}
 
 abbrev pub voiceOf : Channel → Kind → Voice
 voiceOf c k = record { channel = c; kind = k }
+
+-- what the stop register does to each of the six
+abbrev pub stopVoice : Voice → Voice
+stopVoice v = voiceOf (playOff (v .channel)) (v .kind)
+
+abbrev pub isIn : ℕ → List ℕ → Bool
+isIn x [] = false
+isIn x (y ∷ ys) = eqb x y || isIn x ys
 
 -- Register writes.
 
@@ -29,13 +38,11 @@ taps = 14 ∷ 10 ∷ 13 ∷ 4 ∷ 8 ∷ 6 ∷ 9 ∷ 11 ∷ []
 abbrev pub tapOf : ℕ → ℕ
 tapOf b = getD taps (bits 4 3 b) 0
 
--- 0x00: "wave position 0"
-unfoldable pub positionWrite : ℕ → ℕ → ℕ
-positionWrite offset position = cond (eqb offset 0x00) 0 position
-
--- "0x18: wave channels, bank = byte mod 8."
-unfoldable pub bankWrite : ℕ → ℕ → ℕ → ℕ
-bankWrite offset b bank = cond (eqb offset 0x18) (b % 8) bank
+-- 0x00: "wave position 0"; "0x18: wave channels, bank = byte mod 8."
+unfoldable pub waveWrite : ℕ → ℕ → ℕ → ℕ → Reading
+waveWrite offset b bank position =
+    cond (eqb offset 0x00) (record { bank = bank; position = 0 })
+    (cond (eqb offset 0x18) (record { bank = b % 8; position = position }) (record { bank = bank; position = position }))
 
 -- 0x00: "noise shift 0 and output off"; 0x14 chooses the tap
 unfoldable pub noiseWrite : ℕ → ℕ → ℕ → ℕ → Bool → Kind
@@ -43,9 +50,12 @@ noiseWrite offset b shift tap output =
     cond (eqb offset 0x00) (Noise 0 tap false) (cond (eqb offset 0x14) (Noise shift (tapOf b) output) (Noise shift tap output))
 
 unfoldable pub kindWrite : ℕ → ℕ → Kind → Kind
-kindWrite offset b (Wave bank position) = Wave (bankWrite offset b bank) (positionWrite offset position)
+kindWrite offset b (Wave bank position) =
+    let r : Reading = waveWrite offset b bank position in
+    Wave (r .bank) (r .position)
 kindWrite offset b (Swept bank position sweep) =
-    Swept (bankWrite offset b bank) (positionWrite offset position) (sweepWrite offset b sweep)
+    let r : Reading = waveWrite offset b bank position in
+    Swept (r .bank) (r .position) (sweepWrite offset b sweep)
 kindWrite offset b (Noise shift tap output) = noiseWrite offset b shift tap output
 
 unfoldable pub voiceWrite : ℕ → ℕ → Voice → Voice
@@ -58,10 +68,10 @@ unfoldable pub stepAutoStop : Voice → Voice
 stepAutoStop v = voiceOf (withLive (v .channel) (liveStep (v .channel .live))) (v .kind)
 
 -- "at 4 (noise 40)"
-unfoldable pub tickOf : Kind → ℕ
-tickOf (Wave bank position) = waveTick
-tickOf (Swept bank position sweep) = waveTick
-tickOf (Noise shift tap output) = noiseTick
+unfoldable pub periodOf : Kind → ℕ
+periodOf (Wave bank position) = waveTick
+periodOf (Swept bank position sweep) = waveTick
+periodOf (Noise shift tap output) = noiseTick
 
 -- "Channel 5 uses its current frequency."
 unfoldable pub frequencyOf : ℕ → Kind → ℕ
@@ -89,7 +99,7 @@ sampled v p = voiceOf (withPitch (v .channel) (p .pitch)) (cond (p .due) (nextSa
 
 unfoldable pub stepFrequency : Voice → Voice
 stepFrequency v =
-    sampled v (pitchStep (tickOf (v .kind)) (frequencyOf (v .channel .pitch .frequency) (v .kind)) (v .channel .pitch))
+    sampled v (pitchStep (periodOf (v .kind)) (frequencyOf (v .channel .pitch .frequency) (v .kind)) (v .channel .pitch))
 
 -- step 3
 unfoldable pub stepEnvelope : Voice → Voice
@@ -122,7 +132,7 @@ heard waves volume v = cond (v .channel .live .playing) (side (v .channel .envel
 
 -- "tap one of the eight"
 abbrev pub isTap : ℕ → Bool
-isTap t = eqb t 14 || eqb t 10 || eqb t 13 || eqb t 4 || eqb t 8 || eqb t 6 || eqb t 9 || eqb t 11
+isTap t = isIn t taps
 
 -- "bank 0..7" and a position of 0..31
 unfoldable pub waveKindInRange : Kind → Bool

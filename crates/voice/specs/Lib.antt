@@ -1,4 +1,3 @@
 pub mod Constants
 pub mod Waveform
-pub mod SweepModulate
 pub mod ChannelEnum

@@ -1,14 +1,15 @@
 // A voice: a common record and its kind. The Rust's `ChannelType`.
 ghost use mathlib.Core.Path.{_≡_};
-ghost use Rattle.voice.specs.ChannelEnum.{isTap, tapOf, positionWrite, bankWrite, noiseWrite, kindWrite, voiceWrite, tickOf, frequencyOf, clocked, nextSample, stepAutoStop, stepFrequency, stepEnvelope, stepSweep, sampleOf, heard, waveInRange, sweptInRange, noiseInRange};
+ghost use Prim.Native.Nat.{_≤_};
+ghost use Rattle.voice.specs.ChannelEnum.{stopVoice, isTap, tapOf, waveWrite, noiseWrite, kindWrite, voiceWrite, periodOf, frequencyOf, clocked, nextSample, stepAutoStop, stepFrequency, stepEnvelope, stepSweep, sampleOf, heard, waveInRange, sweptInRange, noiseInRange};
 use crate::constants::NOISE_CHANNEL_BASE_FREQUENCY_CYCLE_COUNT;
 use crate::constants::WAVE_CHANNEL_BASE_FREQUENCY_CYCLE_COUNT;
-use crate::sweep_modulate;
-use crate::sweep_modulate::SweepModulate;
 use crate::waveform;
 use common::bits;
 use common::channel;
 use common::channel::Channel;
+use sweep::sweep_modulate;
+use sweep::sweep_modulate::SweepModulate;
 
 pub enum Kind {
     Wave {
@@ -32,6 +33,12 @@ pub struct Voice {
     pub kind: Kind,
 }
 
+// Which of the five waves a wave kind reads, and where in it.
+pub struct Reading {
+    pub bank: u8,
+    pub position: u8,
+}
+
 const TAPS: [u8; 8] = [14, 10, 13, 4, 8, 6, 9, 11];
 
 fn tap_bit(value: u8) -> u8
@@ -41,19 +48,35 @@ fn tap_bit(value: u8) -> u8
     TAPS[code]
 }
 
-fn wave_position(position: u8, offset: u32) -> u8
-    ensures { λ r. ⌜ r ≡ positionWrite offset position ⌝ }
+pub fn is_tap(t: u32) -> bool
+    ensures { λ r. ⌜ r ≡ isTap t ⌝ }
 {
-    if offset == 0 { 0 } else { position }
+    let mut i = 0;
+    while i < 8 {
+        if TAPS[i] as u32 == t {
+            return true;
+        }
+        i += 1;
+    }
+    false
 }
 
-fn wave_bank(bank: u8, offset: u32, value: u8) -> u8
-    ensures { λ r. ⌜ r ≡ bankWrite offset value bank ⌝ }
+fn wave_set_u8(bank: u8, position: u8, offset: u32, value: u8) -> Reading
+    ensures { λ r. ⌜ r ≡ waveWrite offset value bank position ⌝ }
 {
-    if offset == 0x18 {
-        bits::field(value, 0, 3)
-    } else {
-        bank
+    match offset {
+        0x00 => Reading {
+            bank: bank,
+            position: 0,
+        },
+        0x18 => Reading {
+            bank: bits::field(value, 0, 3),
+            position: position,
+        },
+        _ => Reading {
+            bank: bank,
+            position: position,
+        },
     }
 }
 
@@ -83,21 +106,36 @@ fn kind_set_u8(kind: Kind, offset: u32, value: u8) -> Kind
     ensures { λ r. ⌜ r ≡ kindWrite offset value kind ⌝ }
 {
     match kind {
-        Kind::Wave { bank, position } => Kind::Wave {
-            bank: wave_bank(bank, offset, value),
-            position: wave_position(position, offset),
-        },
+        Kind::Wave { bank, position } => {
+            let r = wave_set_u8(bank, position, offset, value);
+            Kind::Wave {
+                bank: r.bank,
+                position: r.position,
+            }
+        }
         Kind::Swept {
             bank,
             position,
             sweep,
-        } => Kind::Swept {
-            bank: wave_bank(bank, offset, value),
-            position: wave_position(position, offset),
-            sweep: sweep_modulate::set_u8(sweep, offset, value),
-        },
+        } => {
+            let r = wave_set_u8(bank, position, offset, value);
+            Kind::Swept {
+                bank: r.bank,
+                position: r.position,
+                sweep: sweep_modulate::set_u8(sweep, offset, value),
+            }
+        }
         Kind::Noise { shift, tap, output } => noise_set_u8(shift, tap, output, offset, value),
     }
+}
+
+pub fn stop_voice(v: Voice) -> Voice
+    ensures { λ r. ⌜ r ≡ stopVoice v ⌝ }
+{
+    let c = v.channel;
+    let mut w = v;
+    w.channel = channel::play_off(c);
+    w
 }
 
 pub fn set_u8(v: Voice, offset: u32, value: u8) -> Voice
@@ -112,7 +150,7 @@ pub fn set_u8(v: Voice, offset: u32, value: u8) -> Voice
 }
 
 fn cycles_per_frequency_tick(kind: Kind) -> u32
-    ensures { λ r. ⌜ r ≡ tickOf kind ⌝ }
+    ensures { λ r. ⌜ r ≡ periodOf kind ⌝ }
 {
     match kind {
         Kind::Wave {
@@ -296,9 +334,9 @@ fn output(kind: Kind, waves: &[u8; 160]) -> u8
     }
 }
 
-// What a voice adds to the side of which `volume` is the volume.
+// What a voice adds to the side of which `volume` is the volume. Whatever its bytes, six of them fit a u32.
 pub fn sample(v: Voice, volume: u8, waves: &[u8; 160]) -> u32
-    ensures { λ r. ⌜ r ≡ heard (now (waves .entry)) volume v ⌝ }
+    ensures { λ r. ⌜ (r ≡ heard (now (waves .entry)) volume v) × (r ≤ 1036447) ⌝ }
 {
     let c = v.channel;
     let kind = v.kind;
@@ -306,12 +344,6 @@ pub fn sample(v: Voice, volume: u8, waves: &[u8; 160]) -> u32
         return 0;
     }
     channel::sample_side(c.envelope.level, volume, output(kind, waves))
-}
-
-pub fn is_tap(t: u32) -> bool
-    ensures { λ r. ⌜ r ≡ isTap t ⌝ }
-{
-    (t == 14) | (t == 10) | (t == 13) | (t == 4) | (t == 8) | (t == 6) | (t == 9) | (t == 11)
 }
 
 pub fn wave_in_range(v: Voice) -> bool

@@ -2,7 +2,7 @@
 ghost use mathlib.Core.Path.{_≡_};
 ghost use Rattle.voice.specs.Waveform.{sampleAt};
 
-pub fn get_indexed(waves: &[u8; 160], bank: u8, position: u8) -> u8
+pub(crate) fn get_indexed(waves: &[u8; 160], bank: u8, position: u8) -> u8
     ensures { λ r. ⌜ r ≡ sampleAt (now (waves .entry)) bank position ⌝ }
 {
     if bank > 4 {

@@ -1,12 +1,12 @@
 -- The cases of the definitions of specs/Core.antt, over plain variables.
-use Prim.Native.Nat.{ℕ, zero, suc, _+_, _-_, _*_, _/_, _%_, _<_, _≤_}
+use Prim.Native.Nat.{ℕ, _+_, _-_, _*_, _/_, _%_, _<_, _≤_}
 use mathlib.Core.Path.{_≡_, refl, sym, ap, _∙_}
-use mathlib.Core.Bool.{Bool, true, false, cond, _&&_, _||_}
+use mathlib.Core.Bool.{Bool, true, false, _&&_, and-assoc, and-true}
 use mathlib.Core.List.{List, [], _∷_, _++_, map, map-id}
 use native.Mathlib.Numerals.{add-one}
 use native.Mathlib.Omega.{arith}
-use borrow.Author.Tests.{lt-leb, le-leb, lt-ltb, le-ltb, eq-eqb, ne-eqb}
-use lib.Dec.{eqb, leb, ltb}
+use borrow.Author.Tests.{lt-leb, le-leb, lt-ltb, ne-eqb}
+use lib.Dec.{leb}
 use lib.IntN.{ℤ, pos}
 use lib.Signed.{mag}
 use mir.Syntax.{w8, w16}
@@ -14,14 +14,17 @@ use mir.Val.{Val, toZ}
 use denote.Array.{each}
 use denote.Shadow.{shadow}
 use denote.Signed.{SInt}
-use lib.ListN.{getD, set, take, drop, length, length-map}
-use lib.Seq.{drop-cons, set-out, take-all}
+use lib.ListN.{getD, set, drop, length, length-map, drop-of-length-le}
+use lib.Seq.{drop-cons, set-out}
+use Rattle.refusal.proofs.RefusalLaws as order
+use Rattle.refusal.specs.Refusal.{Tells}
 use Rattle.common.specs.Bits.{bit, signed}
-use Rattle.voice.specs.ChannelEnum.{voiceWrite}
+use Rattle.voice.specs.ChannelEnum.{stopVoice, voiceWrite}
 use Rattle.voice.specs.declared.channel_enum.Voice.{Voice}
-use Rattle.vsu.specs.Core.{decodeOf, between, plays, anyPlays, voiceAt, stop, write, writeTo, withWaves, withModulation, withVoices, offWave, frameSide, total, allAtMost, allBytes, shaped, voicesInRange, inRange, moved, run, frames, framesDue, sides, fitsIn, movedNumber, runAnswer, runNumber, runOut}
-use Rattle.refusal.specs.Refusal.{answerNumber, answerCarried}
+use Rattle.six.specs.Core.{plays, anyPlays, voiceAt, voicesInRange}
+use Rattle.vsu.specs.Core.{decodeOf, between, write, writeTo, withWaves, withModulation, withVoices, frameSide, allAtMost, allBytes, shaped, inRange, run, frames, framesDue, sides, unitAnswer, movedBy, writeOf, advanceOf, runAnswer, RunGives, ranBy, runOf}
 use Rattle.refusal.specs.declared.Answer.the-variants.{Accepted, Refused}
+use Rattle.refusal.specs.declared.Refusal.{Refusal}
 use Rattle.refusal.specs.declared.Refusal.the-variants.{State, Room}
 use Rattle.vsu.specs.declared.core.Moved.{Moved}
 use Rattle.vsu.specs.declared.core.Ran.{Ran}
@@ -87,38 +90,18 @@ module _ (a : ℕ) where
         unfolding decodeOf
         decode-above e n = rw (above 0 0x27F a (omega arith) h, above 0x280 0x2FF a h g, above 0x400 0x57F a f e, ne-eqb a 0x580 n)
 
--- whether any voice plays, from the front
-
-module _ (vs : List Voice) (i : ℕ) (d : Voice) (h : i < length vs) where
-  pub plays-here : plays (getD vs i d) ≡ true → anyPlays vs ≡ anyPlays (drop i vs) → true ≡ anyPlays vs
-  unfolding anyPlays
-  plays-here p e = sym (e ∙ rw (drop-cons vs i d h, p))
-
-  pub plays-later : plays (getD vs i d) ≡ false → anyPlays vs ≡ anyPlays (drop i vs) → anyPlays vs ≡ anyPlays (drop (i + 1) vs)
-  unfolding anyPlays
-  plays-later p e = e ∙ rw (drop-cons vs i d h, p, add-one i)
-
-drop-all : {A : Type 0} (l : List A) (i : ℕ) → length l ≤ i → drop i l ≡ []
-drop-all l i h = lib.ListN.drop-of-length-le l h
-
-pub plays-nowhere : (vs : List Voice) (i : ℕ) → length vs ≤ i → anyPlays vs ≡ anyPlays (drop i vs) → false ≡ anyPlays vs
-unfolding anyPlays
-plays-nowhere vs i h e = sym (e ∙ rw (drop-all vs i h))
-
 -- whether every sample is small, from the front
 
-module _ (most : ℕ) (l : List ℕ) (i : ℕ) (h : i < length l) where
-  pub above-here : most < getD l i 0 → allAtMost most l ≡ allAtMost most (drop i l) → false ≡ allAtMost most l
-  unfolding allAtMost
-  above-here p e = sym (e ∙ rw (drop-cons l i 0 h, lt-leb (getD l i 0) most p))
+abbrev pub SmallSoFar : ℕ → List ℕ → ℕ → Bool → Type 0
+SmallSoFar most l i t = allAtMost most l ≡ (t && allAtMost most (drop i l))
 
-  pub small-here : getD l i 0 ≤ most → allAtMost most l ≡ allAtMost most (drop i l) → allAtMost most l ≡ allAtMost most (drop (i + 1) l)
-  unfolding allAtMost
-  small-here p e = e ∙ rw (drop-cons l i 0 h, le-leb (getD l i 0) most p, add-one i)
-
-pub all-small : (most : ℕ) (l : List ℕ) (i : ℕ) → length l ≤ i → allAtMost most l ≡ allAtMost most (drop i l) → true ≡ allAtMost most l
+pub one-more : (most : ℕ) (l : List ℕ) (i : ℕ) → i < length l → (t : Bool) → SmallSoFar most l i t → SmallSoFar most l (i + 1) (t && leb (getD l i 0) most)
 unfolding allAtMost
-all-small most l i h e = sym (e ∙ rw (drop-all l i h))
+one-more most l i h t e = e ∙ rw (drop-cons l i 0 h, add-one i) (sym (and-assoc t (leb (getD l i 0) most) _))
+
+pub all-small : (most : ℕ) (l : List ℕ) (i : ℕ) → length l ≤ i → (t : Bool) → SmallSoFar most l i t → t ≡ allAtMost most l
+unfolding allAtMost
+all-small most l i h t e = sym (e ∙ rw (drop-of-length-le l h) (and-true t))
 
 -- register writes: each is dropped, goes in, or lies past the end of its array and so changes nothing
 
@@ -155,7 +138,7 @@ module _ (u : Vsu) (b : ℕ) where
   unfolding writeTo
   channel-past k o h = rw (set-out (u .voices) k (voiceWrite o b (voiceAt k (u .voices))) h)
 
-  pub stop-written : {p : Bool} {vs : List Voice} → p ≡ bit 0 b → p ≡ true → vs ≡ map stop (u .voices) → withVoices u vs ≡ writeTo registers.Stop b u
+  pub stop-written : {p : Bool} {vs : List Voice} → p ≡ bit 0 b → p ≡ true → vs ≡ map stopVoice (u .voices) → withVoices u vs ≡ writeTo registers.Stop b u
   unfolding writeTo
   stop-written e p q = rw (← e, p, q)
 
@@ -177,55 +160,67 @@ module _ (u : Vsu) (b a : ℕ) where
 pub frame-side : {sum : ℕ} → sum ≤ 5478 → toZ w16 (sum / 8 * 32) ≡ frameSide sum
 frame-side {sum} h = rw (lt-ltb (sum / 8 * 32) 32768 (omega arith)) (ap pos (omega arith))
 
--- the voices' sum, from the front
-
-pub total-take : (xs : List ℕ) (i : ℕ) → total (take i xs) ≤ total xs
-total-take xs zero = omega arith
-total-take [] (suc i) = omega arith
-total-take (x ∷ xs) (suc i) = omega (arith, total-take xs i)
-
-module _ (f : Voice → ℕ) where
-  more : (vs : List Voice) (i : ℕ) (d : Voice) → i < length vs → total (take i (map f vs)) + f (getD vs i d) ≡ total (take (suc i) (map f vs))
-  more [] i d h = absurd (omega arith)
-  more (v ∷ vs) zero d h = omega arith
-  more (v ∷ vs) (suc i) d h = omega (arith, more vs i d (omega arith))
-
-  pub sum-more : (vs : List Voice) (i : ℕ) (d : Voice) → i < length vs → {x y : ℕ} → x ≡ total (take i (map f vs)) → y ≡ f (getD vs i d) → x + y ≡ total (take (i + 1) (map f vs))
-  sum-more vs i d h p q = rw (p, q, add-one i) (more vs i d h)
-
-  pub sum-all : (vs : List Voice) (i : ℕ) → length vs ≤ i → {x : ℕ} → x ≡ total (take i (map f vs)) → x ≡ total (map f vs)
-  sum-all vs i h p = p ∙ ap total (take-all i (map f vs) (rw (length-map vs f) h))
-
--- the answers, with their numbers: `p` is what the range test said
+-- the answers: `p` is what the range test said
 
 module _ (u : Vsu) {p : Bool} (e : p ≡ inRange u) where
-  pub moved-on : p ≡ true → {s t : Vsu} → s ≡ t → (record { state = s; answer = Accepted } ≡ moved u t) × ((answerNumber Accepted ≡ movedNumber u) × (answerCarried Accepted ≡ 0))
-  unfolding moved movedNumber
-  moved-on h q = (rw (q, ← e, h), (rw (← e, h), refl))
+  pub unit-accepted : p ≡ true → unitAnswer u ≡ Accepted
+  unfolding unitAnswer
+  unit-accepted h = order.sound State (rw (← e, h))
 
-  pub moved-refused : p ≡ false → (t : Vsu) → (record { state = u; answer = Refused State } ≡ moved u t) × ((answerNumber (Refused State) ≡ movedNumber u) × (answerCarried (Refused State) ≡ 0))
-  unfolding moved movedNumber
-  moved-refused h t = (rw (← e, h), (rw (← e, h), refl))
+  pub unit-refused : p ≡ false → unitAnswer u ≡ Refused State
+  unfolding unitAnswer
+  unit-refused h = order.at-fault State (rw (← e, h))
+
+module _ (u : Vsu) where
+  pub moved-on : unitAnswer u ≡ Accepted → {s t : Vsu} → s ≡ t → (record { state = s; answer = Accepted } ≡ movedBy (unitAnswer u) u t) × Tells Accepted (unitAnswer u)
+  unfolding movedBy
+  moved-on a q = (rw (q, a), order.tells (sym a))
+
+  pub moved-refused : {why : Refusal} → unitAnswer u ≡ Refused why → (t : Vsu) → (record { state = u; answer = Refused why } ≡ movedBy (unitAnswer u) u t) × Tells (Refused why) (unitAnswer u)
+  unfolding movedBy
+  moved-refused a t = (rw a, order.tells (sym a))
+
+  module _ (n room : ℕ) where
+    pub run-refused : {why : Refusal} → unitAnswer u ≡ Refused why → runAnswer n u room ≡ Refused why
+    unfolding runAnswer
+    run-refused a = order.ends _ a
+
+    module _ (a : unitAnswer u ≡ Accepted) where
+      pub run-crowded : room / 2 < framesDue u n → runAnswer n u room ≡ Refused Room
+      unfolding runAnswer
+      run-crowded h = order.on _ a ∙ order.at-fault Room (rw (lt-leb (framesDue u n) (room / 2) h))
+
+      pub run-accepted : framesDue u n ≤ room / 2 → runAnswer n u room ≡ Accepted
+      unfolding runAnswer
+      run-accepted h = order.on _ a ∙ order.sound Room (rw (le-leb (framesDue u n) (room / 2) h))
 
   module _ (n : ℕ) (out : List ℤ) where
-    -- the answer, its number and value, and what the buffer holds
+    -- the answer, what the buffer holds, the answer's number and value
     abbrev pub Promised : Ran → List ℤ → Type 0
-    Promised r after =
-        (r ≡ runAnswer n u (length out)) × (((answerNumber (r .answer) ≡ runNumber n u (length out)) × (answerCarried (r .answer) ≡ 0)) × (after ≡ runOut n u out))
+    Promised r after = (r ≡ runOf n u out .ran) × (after ≡ runOf n u out .out) × Tells (r .answer) (runAnswer n u (length out))
 
-    pub run-refused : p ≡ false → Promised (record { state = u; frames = 0; answer = Refused State }) out
-    unfolding runAnswer runNumber runOut
-    run-refused h = (rw (← e, h), ((rw (← e, h), refl), rw (← e, h)))
+    pub ran-refused : {why : Refusal} → runAnswer n u (length out) ≡ Refused why → Promised (record { state = u; frames = 0; answer = Refused why }) out
+    unfolding ranBy
+    ran-refused a = (rw a, rw a, order.tells (sym a))
 
-    module _ (h : p ≡ true) where
-      pub run-crowded : length out / 2 < framesDue u n → Promised (record { state = u; frames = 0; answer = Refused Room }) out
-      unfolding runAnswer runNumber runOut
-      run-crowded g =
-          let t : fitsIn n u (length out) ≡ false = lt-leb (framesDue u n) (length out / 2) g in
-          (rw (← e, h, t), ((rw (← e, h, t), refl), rw (← e, h, t)))
+    pub ran-on : runAnswer n u (length out) ≡ Accepted → {s : Vsu} {due : ℕ} {after : List ℤ} → s ≡ run n u → due ≡ framesDue u n → after ≡ sides (frames n u) ++ drop (framesDue u n * 2) out → Promised (record { state = s; frames = due; answer = Accepted }) after
+    unfolding ranBy
+    ran-on a q d r = (rw (q, d, a), rw (r, a), order.tells (sym a))
 
-      pub run-made : framesDue u n ≤ length out / 2 → {s : Vsu} {after : List ℤ} → s ≡ run n u → after ≡ sides (frames n u) ++ drop (framesDue u n * 2) out → Promised (record { state = s; frames = framesDue u n; answer = Accepted }) after
-      unfolding runAnswer runNumber runOut
-      run-made g q r =
-          let t : fitsIn n u (length out) ≡ true = le-leb (framesDue u n) (length out / 2) g in
-          (rw (q, ← e, h, t), ((rw (← e, h, t), refl), rw (r, ← e, h, t)))
+-- what a call gives from a state in range, for the layers above
+
+module _ (u : Vsu) (h : inRange u ≡ true) where
+  pub in-range-accepted : unitAnswer u ≡ Accepted
+  in-range-accepted = unit-accepted u refl h
+
+  pub write-gives : (a b : ℕ) → _≡_ {A = Moved} (writeOf a b u) (record { state = write a b u; answer = Accepted })
+  unfolding movedBy
+  write-gives a b = rw in-range-accepted
+
+  pub advance-gives : (n : ℕ) → _≡_ {A = Moved} (advanceOf n u) (record { state = run n u; answer = Accepted })
+  unfolding movedBy
+  advance-gives n = rw in-range-accepted
+
+  pub run-gives : (n : ℕ) (out : List ℤ) → framesDue u n ≤ length out / 2 → _≡_ {A = RunGives} (runOf n u out) (record { ran = record { state = run n u; frames = framesDue u n; answer = Accepted }; out = sides (frames n u) ++ drop (framesDue u n * 2) out })
+  unfolding ranBy
+  run-gives n out g = rw (run-accepted u n (length out) in-range-accepted g)

@@ -1,4 +1,3 @@
-pub mod Upto
 pub mod CoreLaws
 pub mod RangeLaws
 pub mod RunLaws

@@ -17,10 +17,11 @@ use Rattle.laws.proofs.Cases.{both, each, ways}
 use Rattle.voice.proofs.ChannelEnumLaws.{Kept, wave-kept, swept-kept, noise-kept, swept-on-keeps, heard-le}
 use Rattle.common.specs.Bits.{bit, signed}
 use Rattle.common.specs.Channel.{channelInRange, liveInRange, pitchInRange, envelopeInRange}
-use Rattle.voice.specs.SweepModulate.{sweepInRange}
-use Rattle.voice.specs.ChannelEnum.{stepAutoStop, stepFrequency, stepEnvelope, stepSweep, voiceWrite, waveInRange, sweptInRange, noiseInRange, waveKindInRange, sweptKindInRange, noiseKindInRange}
+use Rattle.sweep.specs.SweepModulate.{sweepInRange}
+use Rattle.voice.specs.ChannelEnum.{stopVoice, stepAutoStop, stepFrequency, stepEnvelope, stepSweep, voiceWrite, waveInRange, sweptInRange, noiseInRange, waveKindInRange, sweptKindInRange, noiseKindInRange}
 use Rattle.voice.specs.declared.channel_enum.Voice.{Voice}
-use Rattle.vsu.specs.Core.{SmallSums, allAtMost, allBytes, anyPlays, frameSide, cycle, decodeOf, makesFrame, frameOf, heardLeft, heardRight, inRange, plays, powerOn, run, shaped, stop, sumsOf, sweepFifth, total, voiceAt, voicesAfter, voicesInRange, write, writeTo}
+use Rattle.six.specs.Core.{anyPlays, heardLeft, heardRight, plays, sumsOf, sweepFifth, total, voiceAt, voicesAfter, voicesInRange}
+use Rattle.vsu.specs.Core.{SmallSums, allAtMost, allBytes, frameSide, cycle, decodeOf, makesFrame, frameOf, inRange, powerOn, run, shaped, write, writeTo}
 use Rattle.vsu.specs.declared.core.Register.{Register}
 use Rattle.vsu.specs.declared.core.Register.the-variants as registers
 use Rattle.vsu.specs.declared.core.Vsu.{Vsu}
@@ -165,7 +166,7 @@ module _ (P : Voice → Type 0) {vs : List Voice} (k : Six vs) (w : (v : Voice) 
   voice-at s n (suc (suc (suc (suc (suc zero))))) h = n _ (k .sixth)
   voice-at s n (suc (suc (suc (suc (suc (suc i)))))) h = absurd (omega arith)
 
--- "a state in range stays in range under every cycle"
+-- a state in range stays in range under every cycle
 
 step-keeps : (m : List ℤ) {vs : List Voice} → Six vs → Six (voicesAfter m vs)
 unfolding voicesAfter sweepFifth Keeps
@@ -197,7 +198,7 @@ unfolding run
 run-keeps zero u h = h
 run-keeps (suc n) u h = cycle-keeps (run n u) (run-keeps n u h)
 
--- "and under every write"
+-- and under every write
 
 sized-set : {A : Type 0} (f : A → ℕ) (most : ℕ) (l : List A) (i : ℕ) (x : A) → f x ≤ most → allAtMost most (map f l) ≡ true → allAtMost most (map f (set l i x)) ≡ true
 unfolding allAtMost
@@ -221,9 +222,9 @@ module _ (u : Vsu) (k : InRange u) (b : ℕ) (h : b < 256) where
       (λ e. noise-kept .write _ (subst (λ (i : ℕ). noiseInRange (voiceAt i (u .voices)) ≡ true) (sym e) (six .sixth)) o b h)
       (wave-at (λ (v : Voice). waveInRange (voiceWrite o b v) ≡ true) six (λ v r. wave-kept .write v r o b h) j)
 
-  stop-keeps : Six (map stop (u .voices))
+  stop-keeps : Six (map stopVoice (u .voices))
   unfolding Keeps
-  stop-keeps = map-keeps stop (wave-kept .stop) (swept-kept .stop) (noise-kept .stop) (k .voices)
+  stop-keeps = map-keeps stopVoice (wave-kept .stop) (swept-kept .stop) (noise-kept .stop) (k .voices)
 
   write-facts : (r : Register) → InRange (writeTo r b u)
   unfolding writeTo
@@ -314,7 +315,7 @@ module _ (u : Vsu) (k : InRange u) where
             (λ v r. heard-le (u .waves) s _ (noise-kept .right v r) v (noise-kept .level v r)));
       }
 
--- "a frame's sides are multiples of 32 from 0 to 21,888"
+-- a frame's sides are multiples of 32 from 0 to 21,888
 
 pub record Side (z : ℤ) : Type 0 where
   pub number : ℕ

@@ -14,7 +14,8 @@ use lib.Seq.{drop-cons}
 use Rattle.laws.proofs.Cases.{ways}
 use Rattle.voice.specs.declared.channel_enum.Voice.{Voice}
 use Rattle.vsu.proofs.RangeLaws.{Side, range-facts, cycle-keeps, run-keeps, quiet, frame-sides}
-use Rattle.vsu.specs.Core.{SmallSums, cycle, frameOf, makesFrame, frames, framesDue, inRange, made, run, sides, sumsOf, voicesAfter}
+use Rattle.six.specs.Core.{sumsOf, voicesAfter}
+use Rattle.vsu.specs.Core.{SmallSums, cycle, frameOf, makesFrame, frames, framesDue, inRange, made, run, sides}
 use Rattle.vsu.specs.declared.core.Frame.{Frame}
 use Rattle.vsu.specs.declared.core.Vsu.{Vsu}
 

@@ -1,25 +1,18 @@
 // The unit: the Rust's `VSU`.
 use crate::constants::SOUND_SAMPLE_RATE_CYCLE_COUNT;
 use common::bits;
-use common::channel;
-use common::channel::Channel;
-use common::channel::Envelope;
-use common::channel::Live;
-use common::channel::Pitch;
 use refusal::Answer;
 use refusal::Refusal;
 use voice::channel_enum;
-use voice::channel_enum::Kind;
 use voice::channel_enum::Voice;
-use voice::sweep_modulate::SweepModulate;
 ghost use mathlib.Core.Path.{_≡_};
 ghost use mathlib.Core.Bool.{true};
-ghost use mathlib.Core.List.{_++_, map};
+ghost use mathlib.Core.List.{_++_};
 ghost use Prim.Native.Nat.{_*_, _<_, _≤_};
-ghost use lib.ListN.{getD, length, drop};
-ghost use Rattle.refusal.specs.Refusal.{answerNumber, answerCarried};
-ghost use Rattle.voice.specs.ChannelEnum.{stepAutoStop, stepFrequency, stepEnvelope};
-ghost use Rattle.vsu.specs.Core.{offChannel, offSwept, powerOn, decodeOf, anyPlays, stop, writeTo, write, sweepFifth, voicesAfter, sumsOf, SmallSums, frameOf, run, frames, framesDue, sides, allAtMost, voicesInRange, inRange, writeAnswer, advanceAnswer, movedNumber, runAnswer, runNumber, runOut};
+ghost use lib.ListN.{length, drop};
+ghost use Rattle.refusal.specs.Refusal.{Tells};
+ghost use Rattle.six.specs.Core.{sumsOf};
+ghost use Rattle.vsu.specs.Core.{powerOn, decodeOf, writeTo, write, frameOf, run, frames, framesDue, sides, allAtMost, inRange, unitAnswer, writeOf, advanceOf, runAnswer, runOf, SmallSums};
 
 pub struct Vsu {
     pub voices: [Voice; 6],
@@ -55,105 +48,20 @@ pub struct Ran {
     pub answer: Answer,
 }
 
-// What the playing voices add to each side.
-pub struct Sums {
-    pub left: u32,
-    pub right: u32,
-}
-
-fn new_channel() -> Channel
-    ensures { λ r. ⌜ r ≡ offChannel ⌝ }
-{
-    let live = Live {
-        tick: 0,
-        interval: 0,
-        counter: 0,
-        auto: false,
-        playing: false,
-    };
-    let pitch = Pitch {
-        tick: 0,
-        frequency: 0,
-        counter: 0,
-    };
-    let envelope = Envelope {
-        tick: 0,
-        interval: 0,
-        step: 0,
-        level: 0,
-        reload: 0,
-        up: false,
-        on: false,
-        looped: false,
-    };
-    Channel {
-        live: live,
-        pitch: pitch,
-        envelope: envelope,
-        left: 0,
-        right: 0,
-    }
-}
-
-fn new_pcm_ch5() -> Voice
-    ensures { λ r. ⌜ r ≡ offSwept ⌝ }
-{
-    let c = new_channel();
-    let s = SweepModulate {
-        step: 0,
-        last: 0,
-        current: 0,
-        next: 0,
-        interval: 0,
-        shift: 0,
-        counter: 0,
-        index: 0,
-        enable: false,
-        looped: false,
-        modulate: false,
-        slow: false,
-        up: false,
-    };
-    Voice {
-        channel: c,
-        kind: Kind::Swept {
-            bank: 0,
-            position: 0,
-            sweep: s,
-        },
-    }
-}
-
 // Power-on.
 pub fn new() -> Vsu
     ensures { λ r. ⌜ r ≡ powerOn ⌝ }
 {
-    let c = new_channel();
-    let wave = Voice {
-        channel: c,
-        kind: Kind::Wave {
-            bank: 0,
-            position: 0,
-        },
-    };
-    let swept = new_pcm_ch5();
-    let noise = Voice {
-        channel: c,
-        kind: Kind::Noise {
-            shift: 0,
-            tap: 14,
-            output: false,
-        },
-    };
+    let voices = six::core::new();
     Vsu {
-        voices: [wave, wave, wave, wave, swept, noise],
+        voices: voices,
         output: 0,
         waves: [0; 160],
         modulation: [0; 32],
     }
 }
 
-pub fn decode(address: u32) -> Register
+fn decode(address: u32) -> Register
     ensures { λ r. ⌜ r ≡ decodeOf address ⌝ }
 {
     match address {
@@ -168,50 +76,11 @@ pub fn decode(address: u32) -> Register
     }
 }
 
-fn playback_occuring(voices: [Voice; 6]) -> bool
-    ensures { λ r. ⌜ r ≡ anyPlays voices ⌝ }
-{
-    let mut i = 0;
-    while i < 6 {
-        let v = voices[i];
-        if v.channel.live.playing {
-            return true;
-        }
-        i += 1;
-    }
-    false
-}
-
-fn stopped(v: Voice) -> Voice
-    ensures { λ r. ⌜ r ≡ stop v ⌝ }
-{
-    let mut c = v.channel;
-    let mut l = c.live;
-    l.playing = false;
-    c.live = l;
-    let mut w = v;
-    w.channel = c;
-    w
-}
-
-fn stop_all(voices: [Voice; 6]) -> [Voice; 6]
-    ensures { λ r. ⌜ r ≡ map stop voices ⌝ }
-{
-    let mut out = voices;
-    let mut i = 0;
-    while i < 6 {
-        let v = out[i];
-        out[i] = stopped(v);
-        i += 1;
-    }
-    out
-}
-
 fn write_wave(u: Vsu, at: usize, value: u8) -> Vsu
     ensures { λ r. ⌜ r ≡ writeTo (Register.Wave at) value u ⌝ }
 {
     let voices = u.voices;
-    if playback_occuring(voices) {
+    if six::core::playback_occuring(voices) {
         return u;
     }
     let mut t = u;
@@ -255,14 +124,13 @@ fn write_stop(u: Vsu, value: u8) -> Vsu
     let mut t = u;
     if bits::flag(value, 0) {
         let voices = u.voices;
-        let silent = stop_all(voices);
+        let silent = six::core::stop_all(voices);
         t.voices = silent;
     }
     t
 }
 
-// A register write to any state: for callers that keep a state in range, which a write leaves in range.
-pub fn set_u8(u: Vsu, address: u32, value: u8) -> Vsu
+fn set_u8(u: Vsu, address: u32, value: u8) -> Vsu
     ensures { λ r. ⌜ r ≡ write address value u ⌝ }
 {
     let r = decode(address);
@@ -275,130 +143,29 @@ pub fn set_u8(u: Vsu, address: u32, value: u8) -> Vsu
     }
 }
 
-// Step 1 of a cycle, for all six.
-fn step_auto_deactivate(voices: [Voice; 6]) -> [Voice; 6]
-    ensures { λ r. ⌜ r ≡ map stepAutoStop voices ⌝ }
-{
-    let mut out = voices;
-    let mut i = 0;
-    while i < 6 {
-        let v = out[i];
-        out[i] = channel_enum::step_auto_deactivate(v);
-        i += 1;
-    }
-    out
-}
-
-// Step 2.
-fn step_sampling_frequency(voices: [Voice; 6]) -> [Voice; 6]
-    ensures { λ r. ⌜ r ≡ map stepFrequency voices ⌝ }
-{
-    let mut out = voices;
-    let mut i = 0;
-    while i < 6 {
-        let v = out[i];
-        out[i] = channel_enum::step_sampling_frequency(v);
-        i += 1;
-    }
-    out
-}
-
-// Step 3.
-fn step_envelope(voices: [Voice; 6]) -> [Voice; 6]
-    ensures { λ r. ⌜ r ≡ map stepEnvelope voices ⌝ }
-{
-    let mut out = voices;
-    let mut i = 0;
-    while i < 6 {
-        let v = out[i];
-        out[i] = channel_enum::step_envelope(v);
-        i += 1;
-    }
-    out
-}
-
-// Step 4, at channel 5.
-fn step_sweep_modulate(voices: [Voice; 6], modulation: &[i8; 32]) -> [Voice; 6]
-    ensures { λ r. ⌜ r ≡ sweepFifth (now (modulation .entry)) voices ⌝ }
-{
-    let mut out = voices;
-    let v = out[4];
-    out[4] = channel_enum::step_sweep_modulate(v, modulation);
-    out
-}
-
-// Steps 1 to 4 of a cycle. A function of its own: with the four calls in the loop of `step` a cycle costs more than twice as much
-// (docs/PERFORMANCE.md).
-fn cycle(voices: [Voice; 6], modulation: &[i8; 32]) -> [Voice; 6]
-    ensures { λ r. ⌜ r ≡ voicesAfter (now (modulation .entry)) voices ⌝ }
-{
-    let a = step_auto_deactivate(voices);
-    let b = step_sampling_frequency(a);
-    let c = step_envelope(b);
-    step_sweep_modulate(c, modulation)
-}
-
-// What six voices add to each side. Its caller has shown that they are in range, so that the sums are small.
-fn mix(voices: [Voice; 6], waves: &[u8; 160]) -> Sums
-    requires { ⌜ SmallSums (sumsOf (now waves) voices) ⌝ }
-    ensures { λ r. ⌜ r ≡ sumsOf (now (waves .entry)) voices ⌝ }
-{
-    let mut left = 0;
-    let mut right = 0;
-    let mut i = 0;
-    while i < 6 {
-        let v = voices[i];
-        left += channel_enum::sample(v, v.channel.left, waves);
-        right += channel_enum::sample(v, v.channel.right, waves);
-        i += 1;
-    }
-    Sums {
-        left: left,
-        right: right,
-    }
-}
-
-// The frame of six voices, under the same condition: each side fits an i16.
+// The frame of six voices. Its caller has shown that they are in range, so that each side fits an i16.
 fn sample(voices: [Voice; 6], waves: &[u8; 160]) -> Frame
     requires { ⌜ SmallSums (sumsOf (now waves) voices) ⌝ }
     ensures { λ r. ⌜ r ≡ frameOf (now (waves .entry)) voices ⌝ }
 {
-    let s = mix(voices, waves);
+    let s = six::core::mix(voices, waves);
     Frame {
         left: (s.left / 8 * 32) as i16,
         right: (s.right / 8 * 32) as i16,
     }
 }
 
-fn voices_in_range(voices: [Voice; 6]) -> bool
-    ensures { λ r. ⌜ r ≡ voicesInRange voices ⌝ }
-{
-    let a = voices[0];
-    let b = voices[1];
-    let c = voices[2];
-    let d = voices[3];
-    let e = voices[4];
-    let f = voices[5];
-    channel_enum::wave_in_range(a)
-        & channel_enum::wave_in_range(b)
-        & channel_enum::wave_in_range(c)
-        & channel_enum::wave_in_range(d)
-        & channel_enum::swept_in_range(e)
-        & channel_enum::noise_in_range(f)
-}
-
 fn samples_in_range(waves: &[u8; 160]) -> bool
     ensures { λ r. ⌜ r ≡ allAtMost 63 (now (waves .entry)) ⌝ }
 {
     let samples: &[u8] = waves;
+    let mut small = true;
     let mut i = 0;
     while i < samples.len() {
-        if samples[i] > 63 {
-            return false;
-        }
+        small = small & (samples[i] <= 63);
         i += 1;
     }
-    true
+    small
 }
 
 // The range rules.
@@ -407,13 +174,12 @@ pub fn in_range(u: Vsu) -> bool
 {
     let voices = u.voices;
     let waves = u.waves;
-    voices_in_range(voices) & (u.output <= 479) & samples_in_range(&waves)
+    six::core::in_range(voices) & (u.output <= 479) & samples_in_range(&waves)
 }
 
 // A register write.
 pub fn write(u: Vsu, address: u32, value: u8) -> Moved
-    ensures { λ r. ⌜ r ≡ writeAnswer address value u ⌝ }
-    ensures { λ r. ⌜ (answerNumber (r .answer) ≡ movedNumber u) × (answerCarried (r .answer) ≡ 0) ⌝ }
+    ensures { λ r. ⌜ (r ≡ writeOf address value u) × Tells (r .answer) (unitAnswer u) ⌝ }
 {
     if in_range(u) {
         return Moved {
@@ -425,6 +191,13 @@ pub fn write(u: Vsu, address: u32, value: u8) -> Moved
         state: u,
         answer: Answer::Refused(Refusal::State),
     }
+}
+
+// How many frames n cycles make.
+pub fn frames_due(u: Vsu, n: u32) -> u64
+    ensures { λ r. ⌜ r ≡ framesDue u n ⌝ }
+{
+    ((u.output as u64) + (n as u64)) / (SOUND_SAMPLE_RATE_CYCLE_COUNT as u64)
 }
 
 // n cycles, whose frames fill the front of `out`. For callers that have made the two checks of `run`.
@@ -439,7 +212,7 @@ fn step(u: Vsu, n: u32, out: &mut [i16]) -> Vsu
     let mut at = 0;
     let mut i = 0;
     while i < n {
-        let next = cycle(voices, &modulation);
+        let next = six::core::cycle(voices, &modulation);
         voices = next;
         i += 1;
         if output < SOUND_SAMPLE_RATE_CYCLE_COUNT - 1 {
@@ -487,8 +260,7 @@ fn skip(u: Vsu, n: u32) -> Vsu
 
 // n cycles without frames.
 pub fn advance(u: Vsu, n: u32) -> Moved
-    ensures { λ r. ⌜ r ≡ advanceAnswer n u ⌝ }
-    ensures { λ r. ⌜ (answerNumber (r .answer) ≡ movedNumber u) × (answerCarried (r .answer) ≡ 0) ⌝ }
+    ensures { λ r. ⌜ (r ≡ advanceOf n u) × Tells (r .answer) (unitAnswer u) ⌝ }
 {
     if in_range(u) {
         return Moved {
@@ -504,9 +276,9 @@ pub fn advance(u: Vsu, n: u32) -> Moved
 
 // n cycles, whose frames fill the front of `out`.
 pub fn run(u: Vsu, n: u32, out: &mut [i16]) -> Ran
-    ensures { λ r. ⌜ r ≡ runAnswer n u (length (now (out .entry))) ⌝ }
-    ensures { λ r. ⌜ (answerNumber (r .answer) ≡ runNumber n u (length (now (out .entry)))) × (answerCarried (r .answer) ≡ 0) ⌝ }
-    ensures { λ r. ⌜ now (out .exit) ≡ runOut n u (now (out .entry)) ⌝ }
+    ensures { λ r. ⌜ (r ≡ runOf n u (now (out .entry)) .ran)
+        × (now (out .exit) ≡ runOf n u (now (out .entry)) .out)
+        × Tells (r .answer) (runAnswer n u (length (now (out .entry)))) ⌝ }
 {
     if !in_range(u) {
         return Ran {
@@ -515,7 +287,7 @@ pub fn run(u: Vsu, n: u32, out: &mut [i16]) -> Ran
             answer: Answer::Refused(Refusal::State),
         };
     }
-    let due = ((u.output as u64) + (n as u64)) / 480;
+    let due = frames_due(u, n);
     if due > (out.len() / 2) as u64 {
         return Ran {
             state: u,

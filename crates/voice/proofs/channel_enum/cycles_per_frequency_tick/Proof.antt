@@ -1,5 +1,5 @@
 use borrow.Author.Needs.{needs}
-use Rattle.voice.specs.ChannelEnum.{tickOf}
+use Rattle.voice.specs.ChannelEnum.{periodOf}
 use Rattle.voice.proofs.channel_enum.cycles_per_frequency_tick.Statement.{statement}
 use Rattle.voice.proofs.channel_enum.cycles_per_frequency_tick.Tie as tie
 
@@ -13,15 +13,15 @@ enum-told-3 : tie.Need-enum-told-3
 enum-told-3 c = search needs
 
 returns : tie.Need-returns
-unfolding tickOf
+unfolding periodOf
 returns c = rw (c .enum-told .given .1)
 
 returns-2 : tie.Need-returns-2
-unfolding tickOf
+unfolding periodOf
 returns-2 c = rw (c .enum-told2 .given .1)
 
 returns-3 : tie.Need-returns-3
-unfolding tickOf
+unfolding periodOf
 returns-3 c = rw (c .enum-told3 .given .1)
 
 pub cycles-per-frequency-tick-spec : {M : Type 1} → statement M

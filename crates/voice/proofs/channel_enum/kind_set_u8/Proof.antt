@@ -6,20 +6,14 @@ use Rattle.voice.proofs.channel_enum.kind_set_u8.Tie as tie
 enum-known-kind : tie.Need-enum-known-kind
 enum-known-kind c = search needs
 
-wave-bank-requires : tie.Need-wave-bank-requires
-wave-bank-requires c κs = search needs
-
-wave-position-requires : tie.Need-wave-position-requires
-wave-position-requires c κs = search needs
+wave-set-u8-requires : tie.Need-wave-set-u8-requires
+wave-set-u8-requires c κs = search needs
 
 enum-known-kind-2 : tie.Need-enum-known-kind-2
 enum-known-kind-2 c = search needs
 
-wave-bank-requires-2 : tie.Need-wave-bank-requires-2
-wave-bank-requires-2 c κs = search needs
-
-wave-position-requires-2 : tie.Need-wave-position-requires-2
-wave-position-requires-2 c κs = search needs
+wave-set-u8-requires-2 : tie.Need-wave-set-u8-requires-2
+wave-set-u8-requires-2 c κs = search needs
 
 set-u8-requires : tie.Need-set-u8-requires
 set-u8-requires c κs = search needs
@@ -32,11 +26,11 @@ noise-set-u8-requires c κs = search needs
 
 returns : tie.Need-returns
 unfolding kindWrite
-returns c = rw (c .before .before .before .kind .given .1, c .before .wave-bank .ensures, c .wave-position .ensures)
+returns c = rw (c .before .before .kind .given .1, c .wave-set-u8 .ensures)
 
 returns-2 : tie.Need-returns-2
 unfolding kindWrite
-returns-2 c = rw (c .before .before .before .before .kind2 .given .1, c .before .before .wave-bank2 .ensures, c .before .wave-position2 .ensures, c .set-u8 .ensures)
+returns-2 c = rw (c .before .before .before .kind2 .given .1, c .before .wave-set-u82 .ensures, c .set-u8 .ensures)
 
 returns-3 : tie.Need-returns-3
 unfolding kindWrite
@@ -47,11 +41,9 @@ kind-set-u8-spec =
     tie.close
     (tie.spec
     enum-known-kind
-    wave-bank-requires
-    wave-position-requires
+    wave-set-u8-requires
     enum-known-kind-2
-    wave-bank-requires-2
-    wave-position-requires-2
+    wave-set-u8-requires-2
     set-u8-requires
     enum-known-kind-3
     noise-set-u8-requires

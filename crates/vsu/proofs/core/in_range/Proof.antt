@@ -7,8 +7,8 @@ use borrow.Author.Needs.{needs}
 use Rattle.vsu.proofs.core.in_range.Statement.{statement}
 use Rattle.vsu.proofs.core.in_range.Tie as tie
 
-voices-in-range-requires : tie.Need-voices-in-range-requires
-voices-in-range-requires c κs = search needs
+in-range-requires : tie.Need-in-range-requires
+in-range-requires c κs = search needs
 
 samples-in-range-requires : tie.Need-samples-in-range-requires
 samples-in-range-requires c κs = search needs
@@ -19,7 +19,7 @@ returns c = let u = (c .before .before .before .before .before .before .args .u)
     let waves : length (u .waves) ≡ 160 = search needs in
     let entries : length (u .modulation) ≡ 32 = search needs in
     let bytes : allBytes (u .modulation) ≡ true = search laws.bytes-told in
-    laws.range-told u six waves entries bytes (c .before .before .before .voices-in-range .ensures) (c .samples-in-range .ensures)
+    laws.range-told u six waves entries bytes (c .before .before .before .in-range .ensures) (c .samples-in-range .ensures)
 
 pub in-range-spec : {M : Type 1} → statement M
-in-range-spec = tie.close (tie.spec voices-in-range-requires samples-in-range-requires returns)
+in-range-spec = tie.close (tie.spec in-range-requires samples-in-range-requires returns)

@@ -1,18 +1,14 @@
-use mathlib.Core.Path.{refl}
 use Rattle.vsu.specs.Core.{powerOn}
 use borrow.Author.Needs.{needs}
 use Rattle.vsu.proofs.core.new.Statement.{statement}
 use Rattle.vsu.proofs.core.new.Tie as tie
 
-new-channel-requires : tie.Need-new-channel-requires
-new-channel-requires c κs = search needs
-
-new-pcm-ch5-requires : tie.Need-new-pcm-ch5-requires
-new-pcm-ch5-requires c κs = search needs
+new-requires : tie.Need-new-requires
+new-requires c κs = search needs
 
 returns : tie.Need-returns
 unfolding powerOn
-returns c = rw ((c .new-pcm-ch5 .ensures), (c .before .new-channel .ensures)) refl
+returns c = rw (c .new .ensures)
 
 pub new-spec : {M : Type 1} → statement M
-new-spec = tie.close (tie.spec new-channel-requires new-pcm-ch5-requires returns)
+new-spec = tie.close (tie.spec new-requires returns)

@@ -10,28 +10,35 @@ in-range-requires : tie.Need-in-range-requires
 in-range-requires c κs = search needs
 
 returns : tie.Need-returns
-returns c = laws.run-refused _ (c .before .in-range .ensures) _ _ (not-true _ (c .if1 .taken))
+returns c = laws.ran-refused _ _ _ (laws.run-refused _ _ _ (laws.unit-refused _ (c .before .in-range .ensures) (not-true _ (c .if1 .taken))))
 
-cast-due : tie.Need-cast-due
-cast-due c = search needs
-
-add-due : tie.Need-add-due
-add-due c = search needs
+frames-due-requires : tie.Need-frames-due-requires
+frames-due-requires c κs = search needs
 
 returns-2 : tie.Need-returns-2
-returns-2 c = laws.run-crowded _ (c .before .before .before .in-range .ensures) _ _ (not-false _ (c .before .before .if1 .left)) (c .if2 .taken)
+returns-2 c =
+    laws.ran-refused _ _ _
+    (laws.run-crowded _ _ _ (laws.unit-accepted _ (c .before .before .before .in-range .ensures) (not-false _ (c .before .before .if1 .left)))
+    (omega (arith, c .before .frames-due .ensures, c .if2 .taken)))
 
 step-requires : tie.Need-step-requires
-step-requires c κs = (sym (c .before .before .before .before .in-range .ensures) ∙ not-false _ (c .before .before .before .if1 .left), omega (arith, c .before .if2 .left))
+step-requires c κs = (sym (c .before .before .before .before .in-range .ensures) ∙ not-false _ (c .before .before .before .if1 .left), omega (arith, c .before .before .frames-due .ensures, c .before .if2 .left))
 
-cast-t19 : tie.Need-cast-t19
-cast-t19 c = search needs
+cast-t17 : tie.Need-cast-t17
+cast-t17 c = record { fits = omega (arith, c .before .before .before .before .frames-due .ensures) }
 
 same-length : tie.Need-same-length
 same-length c = search needs
 
 returns-3 : tie.Need-returns-3
-returns-3 c = laws.run-made _ (c .before .before .before .before .before .before .in-range .ensures) _ _ (not-false _ (c .before .before .before .before .before .if1 .left)) (c .before .before .before .if2 .left) ((c .before .step .ensures .0)) ((c .before .step .ensures .1))
+returns-3 c =
+    laws.ran-on _ _ _
+    (laws.run-accepted _ _ _
+    (laws.unit-accepted _ (c .before .before .before .before .before .before .in-range .ensures) (not-false _ (c .before .before .before .before .before .if1 .left)))
+    (omega (arith, c .before .before .before .before .frames-due .ensures, c .before .before .before .if2 .left)))
+    (c .before .step .ensures .0)
+    (c .before .before .before .before .frames-due .ensures)
+    (c .before .step .ensures .1)
 
 pub run-spec : {M : Type 1} → statement M
 run-spec =
@@ -39,10 +46,9 @@ run-spec =
     (tie.spec
     in-range-requires
     returns
-    cast-due
-    add-due
+    frames-due-requires
     returns-2
     step-requires
-    cast-t19
+    cast-t17
     same-length
     returns-3)

@@ -2,7 +2,7 @@ use Rattle.vsu.proofs.CoreLaws as laws
 use native.Mathlib.Omega.{arith}
 use mathlib.Core.Path.{_≡_, sym, ap, refl}
 use Rattle.vsu.specs.Core.{frameOf}
-use Rattle.vsu.specs.declared.core.Sums.{Sums}
+use Rattle.six.specs.declared.core.Sums.{Sums}
 use Prim.Native.Nat.{ℕ, _≤_}
 use borrow.Author.Needs.{needs}
 use Rattle.vsu.proofs.core.sample.Statement.{statement}

@@ -10,10 +10,10 @@ set-u8-requires : tie.Need-set-u8-requires
 set-u8-requires c κs = search needs
 
 returns : tie.Need-returns
-returns c = laws.moved-on _ (c .before .before .in-range .ensures) (c .before .if1 .taken) (c .set-u8 .ensures)
+returns c = laws.moved-on _ (laws.unit-accepted _ (c .before .before .in-range .ensures) (c .before .if1 .taken)) (c .set-u8 .ensures)
 
 returns-2 : tie.Need-returns-2
-returns-2 c = laws.moved-refused _ (c .before .in-range .ensures) (c .if1 .left) _
+returns-2 c = laws.moved-refused _ (laws.unit-refused _ (c .before .in-range .ensures) (c .if1 .left)) _
 
 pub write-spec : {M : Type 1} → statement M
 write-spec = tie.close (tie.spec in-range-requires set-u8-requires returns returns-2)

@@ -1,0 +1,2 @@
+mod Upto
+pub mod CoreLaws

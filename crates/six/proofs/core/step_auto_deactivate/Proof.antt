@@ -1,0 +1,66 @@
+use Prim.Native.Nat.{_≤_, _-_}
+use mathlib.Core.Path.{_≡_}
+use native.Mathlib.Omega.{arith}
+use lib.ListN.{length}
+use borrow.Author.Needs.{needs}
+use Rattle.voice.specs.ChannelEnum.{stepAutoStop}
+use Rattle.six.proofs.Upto.{upTo, upTo-none, upTo-more, upTo-all}
+use Rattle.six.proofs.core.step_auto_deactivate.Statement.{statement}
+use Rattle.six.proofs.core.step_auto_deactivate.Tie as tie
+
+abbrev Inv-loop : tie.InvT-loop
+Inv-loop out₀ i₀ out i = (i ≤ 6) × (out ≡ upTo stepAutoStop i out₀)
+
+abbrev μ-loop : tie.MeasureT-loop
+μ-loop out₀ i₀ out i = 6 - i
+
+loop-holds : tie.Need-loop-holds Inv-loop μ-loop
+loop-holds c = (search needs, upTo-none _ _)
+
+mul-v : tie.Need-mul-v Inv-loop μ-loop
+mul-v c = search needs
+
+array-copy-out-v : tie.Need-array-copy-out-v Inv-loop μ-loop
+array-copy-out-v c = search needs
+
+step-auto-deactivate-requires : tie.Need-step-auto-deactivate-requires Inv-loop μ-loop
+step-auto-deactivate-requires c κs = search needs
+
+mul-out : tie.Need-mul-out Inv-loop μ-loop
+mul-out c = search needs
+
+array-set-from-out : tie.Need-array-set-from-out Inv-loop μ-loop
+array-set-from-out c = search needs
+
+add-i : tie.Need-add-i Inv-loop μ-loop
+add-i c = search needs
+
+loop-less : tie.Need-loop-less Inv-loop μ-loop
+loop-less c = search needs
+
+loop-again : tie.Need-loop-again Inv-loop μ-loop
+loop-again c =
+    let six : length (c .before .before .before .before .args .voices) ≡ 6 = search needs in
+    (search needs, upTo-more _ _ _ (c .before .before .before .loop .inv .1) (omega arith) (c .step-auto-deactivate .ensures))
+
+returns : tie.Need-returns Inv-loop μ-loop
+returns c =
+    let six : length (c .before .before .args .voices) ≡ 6 = search needs in
+    upTo-all _ _ (c .before .loop .inv .1) (omega arith)
+
+pub step-auto-deactivate-spec : {M : Type 1} → statement M
+step-auto-deactivate-spec =
+    tie.close
+    (tie.spec
+    Inv-loop
+    μ-loop
+    loop-holds
+    mul-v
+    array-copy-out-v
+    step-auto-deactivate-requires
+    mul-out
+    array-set-from-out
+    add-i
+    loop-less
+    loop-again
+    returns)

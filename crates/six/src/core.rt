@@ -1,0 +1,233 @@
+// The six voices: what the Rust's `VSU` does with its channels.
+use common::channel::Channel;
+use common::channel::Envelope;
+use common::channel::Live;
+use common::channel::Pitch;
+use sweep::sweep_modulate::SweepModulate;
+use voice::channel_enum;
+use voice::channel_enum::Kind;
+use voice::channel_enum::Voice;
+ghost use mathlib.Core.Path.{_≡_};
+ghost use mathlib.Core.List.{map};
+ghost use Rattle.voice.specs.ChannelEnum.{stopVoice, stepAutoStop, stepFrequency, stepEnvelope};
+ghost use Rattle.six.specs.Core.{offChannel, offSwept, offVoices, anyPlays, sweepFifth, voicesAfter, sumsOf, voicesInRange};
+
+// What the playing voices add to each side.
+pub struct Sums {
+    pub left: u32,
+    pub right: u32,
+}
+
+fn new_channel() -> Channel
+    ensures { λ r. ⌜ r ≡ offChannel ⌝ }
+{
+    let live = Live {
+        tick: 0,
+        interval: 0,
+        counter: 0,
+        auto: false,
+        playing: false,
+    };
+    let pitch = Pitch {
+        tick: 0,
+        frequency: 0,
+        counter: 0,
+    };
+    let envelope = Envelope {
+        tick: 0,
+        interval: 0,
+        step: 0,
+        level: 0,
+        reload: 0,
+        up: false,
+        on: false,
+        looped: false,
+    };
+    Channel {
+        live: live,
+        pitch: pitch,
+        envelope: envelope,
+        left: 0,
+        right: 0,
+    }
+}
+
+fn new_pcm_ch5() -> Voice
+    ensures { λ r. ⌜ r ≡ offSwept ⌝ }
+{
+    let c = new_channel();
+    let s = SweepModulate {
+        step: 0,
+        last: 0,
+        current: 0,
+        next: 0,
+        interval: 0,
+        shift: 0,
+        counter: 0,
+        index: 0,
+        enable: false,
+        looped: false,
+        modulate: false,
+        slow: false,
+        up: false,
+    };
+    Voice {
+        channel: c,
+        kind: Kind::Swept {
+            bank: 0,
+            position: 0,
+            sweep: s,
+        },
+    }
+}
+
+// Power-on.
+pub fn new() -> [Voice; 6]
+    ensures { λ r. ⌜ r ≡ offVoices ⌝ }
+{
+    let c = new_channel();
+    let wave = Voice {
+        channel: c,
+        kind: Kind::Wave {
+            bank: 0,
+            position: 0,
+        },
+    };
+    let swept = new_pcm_ch5();
+    let noise = Voice {
+        channel: c,
+        kind: Kind::Noise {
+            shift: 0,
+            tap: 14,
+            output: false,
+        },
+    };
+    [wave, wave, wave, wave, swept, noise]
+}
+
+pub fn playback_occuring(voices: [Voice; 6]) -> bool
+    ensures { λ r. ⌜ r ≡ anyPlays voices ⌝ }
+{
+    let mut i = 0;
+    while i < 6 {
+        let v = voices[i];
+        if v.channel.live.playing {
+            return true;
+        }
+        i += 1;
+    }
+    false
+}
+
+pub fn stop_all(voices: [Voice; 6]) -> [Voice; 6]
+    ensures { λ r. ⌜ r ≡ map stopVoice voices ⌝ }
+{
+    let mut out = voices;
+    let mut i = 0;
+    while i < 6 {
+        let v = out[i];
+        out[i] = channel_enum::stop_voice(v);
+        i += 1;
+    }
+    out
+}
+
+// Step 1 of a cycle, for all six.
+fn step_auto_deactivate(voices: [Voice; 6]) -> [Voice; 6]
+    ensures { λ r. ⌜ r ≡ map stepAutoStop voices ⌝ }
+{
+    let mut out = voices;
+    let mut i = 0;
+    while i < 6 {
+        let v = out[i];
+        out[i] = channel_enum::step_auto_deactivate(v);
+        i += 1;
+    }
+    out
+}
+
+// Step 2.
+fn step_sampling_frequency(voices: [Voice; 6]) -> [Voice; 6]
+    ensures { λ r. ⌜ r ≡ map stepFrequency voices ⌝ }
+{
+    let mut out = voices;
+    let mut i = 0;
+    while i < 6 {
+        let v = out[i];
+        out[i] = channel_enum::step_sampling_frequency(v);
+        i += 1;
+    }
+    out
+}
+
+// Step 3.
+fn step_envelope(voices: [Voice; 6]) -> [Voice; 6]
+    ensures { λ r. ⌜ r ≡ map stepEnvelope voices ⌝ }
+{
+    let mut out = voices;
+    let mut i = 0;
+    while i < 6 {
+        let v = out[i];
+        out[i] = channel_enum::step_envelope(v);
+        i += 1;
+    }
+    out
+}
+
+// Step 4, at channel 5.
+fn step_sweep_modulate(voices: [Voice; 6], modulation: &[i8; 32]) -> [Voice; 6]
+    ensures { λ r. ⌜ r ≡ sweepFifth (now (modulation .entry)) voices ⌝ }
+{
+    let mut out = voices;
+    let v = out[4];
+    out[4] = channel_enum::step_sweep_modulate(v, modulation);
+    out
+}
+
+// Steps 1 to 4 of a cycle. A function of its own: with the four calls in the loop of `vsu::core::step` a cycle costs more than twice as
+// much (docs/PERFORMANCE.md).
+pub fn cycle(voices: [Voice; 6], modulation: &[i8; 32]) -> [Voice; 6]
+    ensures { λ r. ⌜ r ≡ voicesAfter (now (modulation .entry)) voices ⌝ }
+{
+    let a = step_auto_deactivate(voices);
+    let b = step_sampling_frequency(a);
+    let c = step_envelope(b);
+    step_sweep_modulate(c, modulation)
+}
+
+// What six voices add to each side.
+pub fn mix(voices: [Voice; 6], waves: &[u8; 160]) -> Sums
+    ensures { λ r. ⌜ r ≡ sumsOf (now (waves .entry)) voices ⌝ }
+{
+    let mut left = 0;
+    let mut right = 0;
+    let mut i = 0;
+    while i < 6 {
+        let v = voices[i];
+        left += channel_enum::sample(v, v.channel.left, waves);
+        right += channel_enum::sample(v, v.channel.right, waves);
+        i += 1;
+    }
+    Sums {
+        left: left,
+        right: right,
+    }
+}
+
+// The range rules of the six.
+pub fn in_range(voices: [Voice; 6]) -> bool
+    ensures { λ r. ⌜ r ≡ voicesInRange voices ⌝ }
+{
+    let a = voices[0];
+    let b = voices[1];
+    let c = voices[2];
+    let d = voices[3];
+    let e = voices[4];
+    let f = voices[5];
+    channel_enum::wave_in_range(a)
+        & channel_enum::wave_in_range(b)
+        & channel_enum::wave_in_range(c)
+        & channel_enum::wave_in_range(d)
+        & channel_enum::swept_in_range(e)
+        & channel_enum::noise_in_range(f)
+}

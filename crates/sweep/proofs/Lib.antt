@@ -1,0 +1,2 @@
+mod LentRecord
+pub mod SweepModulateLaws
