@@ -27,8 +27,8 @@ number-step w (x ∷ b) (suc at) = rw (add-one (suc at)) (rw (add-one at) at (nu
 -- the two widths that are read
 
 module _ (b : List ℕ) (at : ℕ) where
-  after : (w i : ℕ) {j : ℕ} → at + i + 1 ≡ j → number w b (at + i + 1) ≡ number w b j
-  after w i e = ap (number w b) e
+  same-place : (w i : ℕ) {j : ℕ} → at + i + 1 ≡ j → number w b (at + i + 1) ≡ number w b j
+  same-place w i e = ap (number w b) e
 
   none : (i : ℕ) → number 0 b i ≡ 0
   unfolding front
@@ -40,7 +40,7 @@ module _ (b : List ℕ) (at : ℕ) where
   pub number-four : number 4 b at ≡ getD b at 0 + 256 * getD b (at + 1) 0 + 65536 * getD b (at + 2) 0 + 16777216 * getD b (at + 3) 0
   number-four =
       omega
-      (arith, number-step 3 b at, number-step 2 b (at + 1), after 2 1 {j = at + 2} (omega arith), number-step 1 b (at + 2), after 1 2 {j = at + 3} (omega arith), number-step 0 b (at + 3), none (at + 3 + 1))
+      (arith, number-step 3 b at, number-step 2 b (at + 1), same-place 2 1 {j = at + 2} (omega arith), number-step 1 b (at + 2), same-place 1 2 {j = at + 3} (omega arith), number-step 0 b (at + 3), none (at + 3 + 1))
 
 pub number-one : (b : List ℕ) (at : ℕ) → number 1 b at ≡ getD b at 0
 number-one b at = omega (arith, number-step 0 b at, none b at (at + 1))

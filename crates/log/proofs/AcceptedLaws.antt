@@ -2,7 +2,7 @@
 -- entries of an accepted log are due before a cycle is told by two of them.
 use Prim.Native.Nat.{ℕ, zero, suc, _+_, _-_, _<_, _≤_}
 use mathlib.Core.Path.{_≡_, refl, sym, ap, subst, _∙_}
-use mathlib.Core.Bool.{Bool, true, false, cond, not, _||_, or-true, true≢false}
+use mathlib.Core.Bool.{Bool, true, false, not, _||_, or-true, true≢false}
 use mathlib.Core.List.{List, [], _∷_}
 use native.Mathlib.Nat.{add-zero, add-suc, le-refl, le-trans}
 use native.Mathlib.Omega.{arith}
@@ -10,12 +10,13 @@ use borrow.Author.Tests.{lt-ltb, le-ltb, le-leb, lt-leb, eq-eqb, ne-eqb, ltb-tru
 use lib.Dec.{eqb, leb, ltb}
 use lib.ListN.{getD, length}
 use Rattle.laws.proofs.Cases.{ahead, both, each, neither, ways}
-use Rattle.little.specs.Little.{number}
-use Rattle.refusal.specs.Refusal.{numberOf}
+use Rattle.refusal.specs.Refusal.{fault, _then_, numberOf, answerNumber}
+use Rattle.refusal.specs.declared.Answer.{Answer}
+use Rattle.refusal.specs.declared.Answer.the-variants as answer
 use Rattle.refusal.specs.declared.Refusal.{Refusal}
 use Rattle.refusal.specs.declared.Refusal.the-variants.{LogShort, LogEdition, LogHeader, LogCount, LogSize, LogEntry}
-use Rattle.log.specs.Log.{Layout, first, place, checkOf, checkedNumber, countOf, cyclesOf, dueAt, dueBefore, dueEarlier, editionOf, faulty, headerOf, offsetOf, scan, standsAt, writeAt, writesFrom}
-use Rattle.log.specs.declared.Checked.{Checked}
+use Rattle.refusal.proofs.RefusalLaws as order
+use Rattle.log.specs.Log.{Layout, entryPlace, mostEntries, checkedBy, checkOf, countOf, cyclesOf, dueAt, dueBefore, dueEarlier, editionOf, entriesAnswer, entryFaulty, entryUnfit, headerOf, logAnswer, offsetOf, standsAt, writeAt, writesFrom}
 use Rattle.log.specs.declared.Checked.the-variants as checked
 use Rattle.log.specs.declared.Write.{Write}
 
@@ -26,38 +27,38 @@ unfolding writesFrom
 writes-length l b zero i = refl
 writes-length l b (suc n) i = ap suc (writes-length l b n (suc i))
 
+-- a row that is not the answer
+
+other : (t : Bool) (why : Refusal) {later : Answer} {told : Refusal} → (numberOf why ≡ numberOf told → ⊥) → (fault t why then later) ≡ answer.Refused told → later ≡ answer.Refused told
+unfolding fault _then_
+other true why n h = absurd (n (ap answerNumber h))
+other false why n h = h
+
 -- the pass
 
-never : {why : Refusal} {n k : ℕ} → checked.Refused why ≡ checked.Log n k → ⊥
-never e = let z : _≡_ {A = ℕ} 0 1 = cc in omega arith
-
-module _ (l : Layout) (b : List ℕ) (count cycles : ℕ) where
-  abbrev pub Sound : ℕ → ℕ → ℕ → ℕ → Type 0
-  Sound n i c k = (count ≡ c) × (cycles ≡ k) × ((j : ℕ) → i ≤ j → j < i + n → faulty l b cycles j ≡ false)
-
-  sound-step : (n i c k : ℕ) → (scan l b count cycles n (suc i) ≡ checked.Log c k → Sound n (suc i) c k) → (t : Bool) → faulty l b cycles i ≡ t → cond t (checked.Refused (LogEntry i)) (scan l b count cycles n (suc i)) ≡ checked.Log c k → Sound (suc n) i c k
-  sound-step n i c k r true f q = absurd (never q)
-  sound-step n i c k r false f q = let s = r q in (s .0, s .1, ahead (λ (j : ℕ). faulty l b cycles j ≡ false) n i f (s .2))
-
-  pub scan-sound : (n i c k : ℕ) → scan l b count cycles n i ≡ checked.Log c k → Sound n i c k
-  unfolding scan
-  scan-sound zero i c k e = (cc, cc, λ j h g. absurd (omega arith))
-  scan-sound (suc n) i c k e = sound-step n i c k (scan-sound n (suc i) c k) (faulty l b cycles i) refl e
+module _ (l : Layout) (b : List ℕ) (cycles : ℕ) where
+  pub entries-sound : (n i : ℕ) → entriesAnswer l b cycles n i ≡ answer.Accepted → (j : ℕ) → i ≤ j → j < i + n → entryFaulty l b cycles j ≡ false
+  unfolding entriesAnswer
+  entries-sound zero i e = λ j h g. absurd (omega arith)
+  entries-sound (suc n) i e =
+      let s = order.passed (entryFaulty l b cycles i) (LogEntry i) e in
+      ahead (λ (j : ℕ). entryFaulty l b cycles j ≡ false) n i (s .0) (entries-sound n (suc i) (s .1))
 
   -- "carries the first such index"
   pub record First (n i k : ℕ) : Type 0 where
     pub from : i ≤ k
     pub before : k < i + n
-    pub fault : faulty l b cycles k ≡ true
-    pub sound : (j : ℕ) → i ≤ j → j < k → faulty l b cycles j ≡ false
+    pub faulty : entryFaulty l b cycles k ≡ true
+    pub sound : (j : ℕ) → i ≤ j → j < k → entryFaulty l b cycles j ≡ false
 
-  first-step : (n i k : ℕ) → (scan l b count cycles n (suc i) ≡ checked.Refused (LogEntry k) → First n (suc i) k) → (t : Bool) → faulty l b cycles i ≡ t → cond t (checked.Refused (LogEntry i)) (scan l b count cycles n (suc i)) ≡ checked.Refused (LogEntry k) → First (suc n) i k
+  first-step : (n i k : ℕ) → (entriesAnswer l b cycles n (suc i) ≡ answer.Refused (LogEntry k) → First n (suc i) k) → (t : Bool) → entryFaulty l b cycles i ≡ t → (fault t (LogEntry i) then entriesAnswer l b cycles n (suc i)) ≡ answer.Refused (LogEntry k) → First (suc n) i k
+  unfolding fault _then_
   first-step n i k r true f q =
       let e : i ≡ k = cc in
       record {
         from = omega arith;
         before = omega arith;
-        fault = rw (← e) f;
+        faulty = rw (← e) f;
         sound = λ j h g. absurd (omega arith);
       }
   first-step n i k r false f q =
@@ -65,76 +66,88 @@ module _ (l : Layout) (b : List ℕ) (count cycles : ℕ) where
       record {
         from = omega (arith, s .from);
         before = omega (arith, s .before);
-        fault = s .fault;
-        sound = λ j h g. ahead (λ (m : ℕ). m < k → faulty l b cycles m ≡ false) (j - i) i (λ _. f) (λ m p o t. s .sound m p t) j h (omega arith) g;
+        faulty = s .faulty;
+        sound = λ j h g. ahead (λ (m : ℕ). m < k → entryFaulty l b cycles m ≡ false) (j - i) i (λ _. f) (λ m p o t. s .sound m p t) j h (omega arith) g;
       }
 
-  pub scan-first : (n i k : ℕ) → scan l b count cycles n i ≡ checked.Refused (LogEntry k) → First n i k
-  unfolding scan
-  scan-first zero i k e = absurd (never (sym e))
-  scan-first (suc n) i k e = first-step n i k (scan-first n (suc i) k) (faulty l b cycles i) refl e
+  pub entries-first : (n i k : ℕ) → entriesAnswer l b cycles n i ≡ answer.Refused (LogEntry k) → First n i k
+  unfolding entriesAnswer
+  entries-first zero i k e = let z : _≡_ {A = ℕ} 0 1 = cc in absurd (omega arith)
+  entries-first (suc n) i k e = first-step n i k (entries-first n (suc i) k) (entryFaulty l b cycles i) refl e
+
+-- a check's answer, and the order's
+
+module _ (l : Layout) (b : List ℕ) where
+  pub checked-log : {count cycles : ℕ} → checkOf l b ≡ checked.Log count cycles → (logAnswer l b ≡ answer.Accepted) × (count ≡ countOf b) × (cycles ≡ cyclesOf l b)
+  unfolding checkOf
+  checked-log {count} {cycles} = by (logAnswer l b)
+    where
+      by : (a : Answer) → checkedBy a (countOf b) (cyclesOf l b) ≡ checked.Log count cycles → (a ≡ answer.Accepted) × (count ≡ countOf b) × (cycles ≡ cyclesOf l b)
+      by answer.Accepted e = (refl, cc, cc)
+      by (answer.Refused why) e = let z : _≡_ {A = ℕ} 0 1 = cc in absurd (omega arith)
+
+  pub checked-refused : {why : Refusal} → checkOf l b ≡ checked.Refused why → logAnswer l b ≡ answer.Refused why
+  unfolding checkOf
+  checked-refused {why} = by (logAnswer l b)
+    where
+      by : (a : Answer) → checkedBy a (countOf b) (cyclesOf l b) ≡ checked.Refused why → a ≡ answer.Refused why
+      by answer.Accepted e = let z : _≡_ {A = ℕ} 0 1 = cc in absurd (omega arith)
+      by (answer.Refused told) e = cc
 
 -- an accepted log
 
 pub record Accepted (l : Layout) (b : List ℕ) (n k : ℕ) : Type 0 where
+  pub edition : editionOf b ≡ l .edition
+  pub header : headerOf b ≡ l .header
+  pub offset : offsetOf b ≡ l .header
   pub count : countOf b ≡ n
   pub cycles : cyclesOf l b ≡ k
-  pub most : n ≤ 1000000
-  pub size : length b ≡ place l n
-  pub sound : (i : ℕ) → i < n → faulty l b k i ≡ false
+  pub most : n ≤ mostEntries
+  pub size : length b ≡ entryPlace l n
+  pub sound : (i : ℕ) → i < n → entryFaulty l b k i ≡ false
 
-module _ (l : Layout) (b : List ℕ) (n k : ℕ) where
-  abbrev Told : Checked → Type 0
-  Told c = c ≡ checked.Log n k → Accepted l b n k
-
-  scanned : countOf b ≤ 1000000 → length b ≡ place l (countOf b) → Told (scan l b (countOf b) (cyclesOf l b) (countOf b) 0)
-  scanned g z e =
-      let s = scan-sound l b (countOf b) (cyclesOf l b) (countOf b) 0 n k e in
-      record {
-        count = s .0;
-        cycles = s .1;
-        most = omega (arith, s .0);
-        size = z ∙ ap (place l) (s .0);
-        sound = λ i h. subst (λ (c : ℕ). faulty l b c i ≡ false) (s .1) (s .2 i (omega arith) (omega (arith, s .0)));
-      }
-
-  pub accepted : Told (checkOf l b)
-  unfolding checkOf
-  accepted =
-      ways Told (ltb (length b) (l .header)) (λ _ e. absurd (never e))
-      (λ _. ways Told (not (eqb (editionOf b) (l .edition))) (λ _ e. absurd (never e))
-      (λ _. ways Told (not (eqb (headerOf b) (l .header)) || not (eqb (offsetOf b) (l .header))) (λ _ e. absurd (never e))
-      (λ _. ways Told (ltb 1000000 (countOf b)) (λ _ e. absurd (never e))
-      (λ g. ways Told (not (eqb (length b) (place l (countOf b)))) (λ _ e. absurd (never e))
-      (λ z. scanned (ltb-false _ _ g) (eqb-true _ _ (not-false _ z)))))))
+pub accepted : (l : Layout) (b : List ℕ) (n k : ℕ) → checkOf l b ≡ checked.Log n k → Accepted l b n k
+unfolding logAnswer
+accepted l b n k e =
+    let c = checked-log l b e in
+    let long = order.passed (ltb (length b) (l .header)) LogShort (c .0) in
+    let edition = order.passed (not (eqb (editionOf b) (l .edition))) LogEdition (long .1) in
+    let header = order.passed (not (eqb (headerOf b) (l .header)) || not (eqb (offsetOf b) (l .header))) LogHeader (edition .1) in
+    let both = neither (not (eqb (headerOf b) (l .header))) (not (eqb (offsetOf b) (l .header))) (header .0) in
+    let most = order.passed (ltb mostEntries (countOf b)) LogCount (header .1) in
+    let size = order.passed (not (eqb (length b) (entryPlace l (countOf b)))) LogSize (most .1) in
+    record {
+      edition = eqb-true _ _ (not-false _ (edition .0));
+      header = eqb-true _ _ (not-false _ (both .0));
+      offset = eqb-true _ _ (not-false _ (both .1));
+      count = sym (c .1);
+      cycles = sym (c .2);
+      most = rw (c .1) (ltb-false _ _ (most .0));
+      size = eqb-true _ _ (not-false _ (size .0)) ∙ ap (entryPlace l) (sym (c .1));
+      sound = λ i h. rw (c .2) (entries-sound l b (cyclesOf l b) (countOf b) 0 (size .1) i (omega arith) (omega (arith, c .1)));
+    }
 
 -- a log refused for an entry: the index that is carried is the first at fault
 
-module _ (l : Layout) (b : List ℕ) (i : ℕ) where
-  abbrev Blamed : Checked → Type 0
-  Blamed c = c ≡ checked.Refused (LogEntry i) → First l b (countOf b) (cyclesOf l b) (countOf b) 0 i
-
-  other : {why : Refusal} → (numberOf why ≡ 8 → ⊥) → Blamed (checked.Refused why)
-  other {why} h e = absurd (h (ap checkedNumber e))
-
-  pub first-fault : Blamed (checkOf l b)
-  unfolding checkOf
-  first-fault =
-      ways Blamed (ltb (length b) (l .header)) (λ _. other {why = LogShort} (omega arith))
-      (λ _. ways Blamed (not (eqb (editionOf b) (l .edition))) (λ _. other {why = LogEdition} (omega arith))
-      (λ _. ways Blamed (not (eqb (headerOf b) (l .header)) || not (eqb (offsetOf b) (l .header))) (λ _. other {why = LogHeader} (omega arith))
-      (λ _. ways Blamed (ltb 1000000 (countOf b)) (λ _. other {why = LogCount} (omega arith))
-      (λ _. ways Blamed (not (eqb (length b) (place l (countOf b)))) (λ _. other {why = LogSize} (omega arith))
-      (λ _. scan-first l b (countOf b) (cyclesOf l b) (countOf b) 0 i)))))
+pub first-fault : (l : Layout) (b : List ℕ) (i : ℕ) → checkOf l b ≡ checked.Refused (LogEntry i) → First l b (cyclesOf l b) (countOf b) 0 i
+unfolding logAnswer
+first-fault l b i e =
+    entries-first l b (cyclesOf l b) (countOf b) 0 i
+    (other (not (eqb (length b) (entryPlace l (countOf b)))) LogSize (omega arith)
+    (other (ltb mostEntries (countOf b)) LogCount (omega arith)
+    (other (not (eqb (headerOf b) (l .header)) || not (eqb (offsetOf b) (l .header))) LogHeader (omega arith)
+    (other (not (eqb (editionOf b) (l .edition))) LogEdition (omega arith)
+    (other (ltb (length b) (l .header)) LogShort (omega arith)
+    (checked-refused l b e))))))
 
 -- "Due cycles never fall and are below L."
 
 module _ {l : Layout} {b : List ℕ} {n k : ℕ} (a : Accepted l b n k) where
   entry-sound : (i : ℕ) → i < n → (dueAt l b i < k) × (dueEarlier l b i ≤ dueAt l b i)
-  unfolding faulty
+  unfolding entryUnfit
   entry-sound i h =
-      let s = neither (not (eqb (getD b (place l i + (l .due + 3)) 0) 0) || leb k (dueAt l b i)) (ltb (dueAt l b i) (dueEarlier l b i)) (a .sound i h) in
-      let t = neither (not (eqb (getD b (place l i + (l .due + 3)) 0) 0)) (leb k (dueAt l b i)) (s .0) in
+      let s = neither (not (eqb (getD b (entryPlace l i + (l .due + 3)) 0) 0) || leb k (dueAt l b i)) (ltb (dueAt l b i) (dueEarlier l b i)) (a .sound i h) in
+      let t = neither (not (eqb (getD b (entryPlace l i + (l .due + 3)) 0) 0)) (leb k (dueAt l b i)) (s .0) in
       (leb-false _ _ (t .1), ltb-false _ _ (s .1))
 
   pub due-below : (i : ℕ) → i < n → dueAt l b i < k
@@ -272,5 +285,5 @@ module _ {lay : Layout} {b : List ℕ} {n k : ℕ} (a : Accepted lay b n k) (c :
       go false e = sym (ne-eqb _ _ (λ q. true≢false (sym stands-here ∙ subst (λ (x : ℕ). standsAt lay b n c x ≡ false) q e)))
 
 -- both promises of `stands_at`
-pub both-stand : (b : List ℕ) (count cycle t : ℕ) {r : Bool} → r ≡ standsAt first b count cycle t → (r ≡ standsAt first b count cycle t) × ((k : ℕ) → checkOf first b ≡ checked.Log count k → r ≡ eqb t (dueBefore (writesFrom first b count 0) cycle))
-both-stand b count cycle t e = (e, λ k c. e ∙ stands (accepted first b count k c) cycle t)
+pub both-stand : (l : Layout) (b : List ℕ) (count cycle t : ℕ) {r : Bool} → r ≡ standsAt l b count cycle t → (r ≡ standsAt l b count cycle t) × ((k : ℕ) → checkOf l b ≡ checked.Log count k → r ≡ eqb t (dueBefore (writesFrom l b count 0) cycle))
+both-stand l b count cycle t e = (e, λ k c. e ∙ stands (accepted l b count k c) cycle t)

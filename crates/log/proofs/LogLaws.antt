@@ -9,12 +9,14 @@ use native.Mathlib.Omega.{arith}
 use borrow.Author.Tests.{lt-ltb, le-ltb, eq-eqb, ne-eqb}
 use lib.Dec.{eqb, leb, ltb}
 use lib.ListN.{getD, length}
-use Rattle.laws.proofs.Cases.{chosen}
 use Rattle.little.specs.Little.{number}
-use Rattle.refusal.specs.Refusal.{numberOf, carriedOf}
+use Rattle.refusal.specs.Refusal.{fault, _then_, Tells}
+use Rattle.refusal.specs.declared.Answer.{Answer}
+use Rattle.refusal.specs.declared.Answer.the-variants.{Accepted, Refused}
 use Rattle.refusal.specs.declared.Refusal.{Refusal}
 use Rattle.refusal.specs.declared.Refusal.the-variants.{LogShort, LogEdition, LogHeader, LogCount, LogSize, LogEntry}
-use Rattle.log.specs.Log.{Layout, first, place, checkNumber, checkCarried, checkTold, checkedNumber, checkedCarried, countedNumber, countedCarried, readNumber, readCarried, scanTold, dueBefore, dueBeforeOf, countIn, entryIn, entryOf, handed, writesFrom, checkOf, countOf, cyclesOf, dueAt, dueEarlier, editionOf, faulty, headerOf, offsetOf, scan, writeAt}
+use Rattle.refusal.proofs.RefusalLaws as order
+use Rattle.log.specs.Log.{Layout, entryPlace, mostEntries, checkedBy, checkedAnswer, countedAnswer, entriesAnswer, entryAnswer, logAnswer, dueBefore, dueBeforeOf, countIn, entryIn, entryOf, handed, writesFrom, checkOf, countOf, cyclesOf, dueAt, dueEarlier, editionOf, entryFaulty, entryUnfit, headerOf, offsetOf, writeAt}
 use Rattle.log.specs.declared.Checked.{Checked}
 use Rattle.log.specs.declared.Checked.the-variants as checked
 use Rattle.log.specs.declared.Counted.{Counted}
@@ -25,88 +27,97 @@ use Rattle.log.specs.declared.Write.{Write}
 
 -- the pass over the entries
 
-module _ (b : List ℕ) (count cycles i : ℕ) where
-  -- what the loop tests is whether entry i is at fault
-  pub tested : {at byte due before : ℕ} → at ≡ place first i → byte ≡ getD b (at + 7) 0 → due ≡ number 4 b at → before ≡ dueEarlier first b i → {t : Bool} → (not (eqb byte 0) || leb cycles due || ltb due before) ≡ t → faulty first b cycles i ≡ t
-  unfolding faulty dueAt
-  tested p q r s e = rw (q, r, p, s) at e
+left : (count i : ℕ) → i < count → count - i ≡ suc (count - (i + 1))
+left count i h = omega arith
 
-  left : i < count → count - i ≡ suc (count - (i + 1))
-  left h = omega arith
+-- what the loop tests is whether entry i is at fault
+pub tested : (l : Layout) (b : List ℕ) (cycles i : ℕ) {at byte due before : ℕ} → at ≡ entryPlace l i → byte ≡ getD b (at + (l .due + 3)) 0 → due ≡ number (l .due) b at → before ≡ dueEarlier l b i → {t : Bool} → (not (eqb byte 0) || leb cycles due || ltb due before) ≡ t → entryFaulty l b cycles i ≡ t
+unfolding entryUnfit dueAt
+tested l b cycles i p q r s e = rw (q, r, p, s) at e
 
-  pub scan-fault : i < count → faulty first b cycles i ≡ true → scan first b count cycles (count - i) i ≡ checked.Refused (LogEntry i)
-  unfolding scan
-  scan-fault h f = rw (left h, f)
+module _ (l : Layout) (b : List ℕ) (count cycles i : ℕ) where
+  pub entries-fault : i < count → entryFaulty l b cycles i ≡ true → entriesAnswer l b cycles (count - i) i ≡ Refused (LogEntry i)
+  unfolding entriesAnswer
+  entries-fault h f = rw (left count i h) (order.ends _ (order.at-fault (LogEntry i) f))
 
-  pub scan-on : i < count → faulty first b cycles i ≡ false → scan first b count cycles (count - i) i ≡ scan first b count cycles (count - (i + 1)) (i + 1)
-  unfolding scan
-  scan-on h f = rw (left h, f, add-one i)
+  pub entries-on : i < count → entryFaulty l b cycles i ≡ false → entriesAnswer l b cycles (count - i) i ≡ entriesAnswer l b cycles (count - (i + 1)) (i + 1)
+  unfolding entriesAnswer
+  entries-on h f = rw (left count i h, add-one i) (order.on _ (order.sound (LogEntry i) f))
 
-  pub scan-end : count ≤ i → scan first b count cycles (count - i) i ≡ checked.Log count cycles
-  unfolding scan
-  scan-end h = let z : count - i ≡ 0 = omega arith in rw z
+  pub entries-end : count ≤ i → entriesAnswer l b cycles (count - i) i ≡ Accepted
+  unfolding entriesAnswer
+  entries-end h = let z : count - i ≡ 0 = omega arith in rw z
 
-pub earlier-next : (b : List ℕ) (i : ℕ) {at due : ℕ} → at ≡ place first i → due ≡ number 4 b at → due ≡ dueEarlier first b (i + 1)
+pub earlier-next : (l : Layout) (b : List ℕ) (i : ℕ) {at due : ℕ} → at ≡ entryPlace l i → due ≡ number (l .due) b at → due ≡ dueEarlier l b (i + 1)
 unfolding dueEarlier dueAt
-earlier-next b i p q = rw (add-one i, q, p)
+earlier-next l b i p q = rw (add-one i, q, p)
 
--- the header, refusal by refusal: each law has the tests before it passed
+-- an answer of the pass is the check's, by the answer of its entries
 
-module _ (b : List ℕ) where
-  pub check-short : length b < 16 → checked.Refused LogShort ≡ checkOf first b
-  unfolding checkOf
-  check-short h = rw (lt-ltb (length b) 16 h)
+pub by-refused : {a : Answer} {why : Refusal} (count cycles : ℕ) → a ≡ Refused why → checked.Refused why ≡ checkedBy a count cycles
+by-refused count cycles h = rw h
 
-  module _ (l : 16 ≤ length b) {e : ℕ} (p : e ≡ editionOf b) where
-    pub check-edition : (e ≡ 1 → ⊥) → checked.Refused LogEdition ≡ checkOf first b
-    unfolding checkOf
-    check-edition n = rw (le-ltb (length b) 16 l, ← p, ne-eqb e 1 n)
+pub by-accepted : {a : Answer} (count cycles : ℕ) → a ≡ Accepted → checked.Log count cycles ≡ checkedBy a count cycles
+by-accepted count cycles h = rw h
 
-    module _ (v : e ≡ 1) {h o : ℕ} (q : h ≡ headerOf b) (r : o ≡ offsetOf b) where
-      pub check-header : (not (eqb h 16) || not (eqb o 16)) ≡ true → checked.Refused LogHeader ≡ checkOf first b
-      unfolding checkOf
-      check-header t = rw (le-ltb (length b) 16 l, ← p, eq-eqb e 1 v, ← q, ← r, t)
+-- the header, row by row: each law has the tests before it passed
 
-      module _ (t : (not (eqb h 16) || not (eqb o 16)) ≡ false) {c : ℕ} (s : c ≡ countOf b) where
-        pub check-count : 1000000 < c → checked.Refused LogCount ≡ checkOf first b
-        unfolding checkOf
-        check-count g = rw (le-ltb (length b) 16 l, ← p, eq-eqb e 1 v, ← q, ← r, t, ← s, lt-ltb 1000000 c g)
+module _ (l : Layout) (b : List ℕ) where
+  pub too-short : length b < l .header → logAnswer l b ≡ Refused LogShort
+  unfolding logAnswer
+  too-short h = order.ends _ (order.at-fault LogShort (lt-ltb (length b) (l .header) h))
 
-        module _ (g : c ≤ 1000000) {z : ℕ} (w : z ≡ place first c) where
-          pub check-size : (length b ≡ z → ⊥) → checked.Refused LogSize ≡ checkOf first b
-          unfolding checkOf
-          check-size n =
-              rw (le-ltb (length b) 16 l, ← p, eq-eqb e 1 v, ← q, ← r, t, ← s, le-ltb 1000000 c g, ← w, ne-eqb (length b) z n)
+  module _ (long : l .header ≤ length b) {e : ℕ} (p : e ≡ editionOf b) where
+    pub wrong-edition : (e ≡ l .edition → ⊥) → logAnswer l b ≡ Refused LogEdition
+    unfolding logAnswer fault _then_
+    wrong-edition n = rw (le-ltb (length b) (l .header) long, ← p, ne-eqb e (l .edition) n)
 
-          pub check-scan : length b ≡ z → {k : ℕ} → k ≡ cyclesOf first b → scan first b c k c 0 ≡ checkOf first b
-          unfolding checkOf
-          check-scan n x =
+    module _ (v : e ≡ l .edition) {h o : ℕ} (q : h ≡ headerOf b) (r : o ≡ offsetOf b) where
+      pub wrong-header : (not (eqb h (l .header)) || not (eqb o (l .header))) ≡ true → logAnswer l b ≡ Refused LogHeader
+      unfolding logAnswer fault _then_
+      wrong-header t = rw (le-ltb (length b) (l .header) long, ← p, eq-eqb e (l .edition) v, ← q, ← r, t)
+
+      module _ (t : (not (eqb h (l .header)) || not (eqb o (l .header))) ≡ false) {c : ℕ} (s : c ≡ countOf b) where
+        pub too-many : mostEntries < c → logAnswer l b ≡ Refused LogCount
+        unfolding logAnswer fault _then_
+        too-many g = rw (le-ltb (length b) (l .header) long, ← p, eq-eqb e (l .edition) v, ← q, ← r, t, ← s, lt-ltb mostEntries c g)
+
+        module _ (g : c ≤ mostEntries) {z : ℕ} (w : z ≡ entryPlace l c) where
+          pub wrong-size : (length b ≡ z → ⊥) → logAnswer l b ≡ Refused LogSize
+          unfolding logAnswer fault _then_
+          wrong-size n =
+              rw (le-ltb (length b) (l .header) long, ← p, eq-eqb e (l .edition) v, ← q, ← r, t, ← s, le-ltb mostEntries c g, ← w, ne-eqb (length b) z n)
+
+          -- and the pass, which has the header's numbers
+          pub then-entries : length b ≡ z → {k : ℕ} → k ≡ cyclesOf l b → checkedBy (entriesAnswer l b k c 0) c k ≡ checkOf l b
+          unfolding checkOf logAnswer fault _then_
+          then-entries n x =
               rw
-              (le-ltb (length b) 16 l, ← p, eq-eqb e 1 v, ← q, ← r, t, ← s, le-ltb 1000000 c g, ← w, eq-eqb (length b) z n, ← x)
+              (le-ltb (length b) (l .header) long, ← p, eq-eqb e (l .edition) v, ← q, ← r, t, ← s, le-ltb mostEntries c g, ← w, eq-eqb (length b) z n, ← x)
 
 -- counting, from the front
 
-module _ (b : List ℕ) (count cycle i : ℕ) where
+module _ (l : Layout) (b : List ℕ) (count cycle i : ℕ) where
   -- what entry i adds to the number of those due before the cycle
-  counted : {d : ℕ} → i < count → d ≡ dueAt first b i → dueBefore (writesFrom first b (count - i) i) cycle ≡ cond (ltb d cycle) 1 0 + dueBefore (writesFrom first b (count - (i + 1)) (i + 1)) cycle
+  counted : {d : ℕ} → i < count → d ≡ dueAt l b i → dueBefore (writesFrom l b (count - i) i) cycle ≡ cond (ltb d cycle) 1 0 + dueBefore (writesFrom l b (count - (i + 1)) (i + 1)) cycle
   unfolding writesFrom dueBefore writeAt
-  counted {d} h e = rw (left b count cycle i h, ← e, add-one i)
+  counted {d} h e = rw (left count i h, ← e, add-one i)
 
-  module _ (n : ℕ) {whole d : ℕ} (h : i < count) (p : n + dueBefore (writesFrom first b (count - i) i) cycle ≡ whole) (e : d ≡ dueAt first b i) where
-    pub count-one : d < cycle → n + 1 + dueBefore (writesFrom first b (count - (i + 1)) (i + 1)) cycle ≡ whole
+  module _ (n : ℕ) {whole d : ℕ} (h : i < count) (p : n + dueBefore (writesFrom l b (count - i) i) cycle ≡ whole) (e : d ≡ dueAt l b i) where
+    pub count-one : d < cycle → n + 1 + dueBefore (writesFrom l b (count - (i + 1)) (i + 1)) cycle ≡ whole
     count-one g = omega (arith, p, rw (lt-ltb d cycle g) at (counted h e))
 
-    pub count-none : cycle ≤ d → n + dueBefore (writesFrom first b (count - (i + 1)) (i + 1)) cycle ≡ whole
+    pub count-none : cycle ≤ d → n + dueBefore (writesFrom l b (count - (i + 1)) (i + 1)) cycle ≡ whole
     count-none g = omega (arith, p, rw (le-ltb d cycle g) at (counted h e))
 
-  pub count-end : count ≤ i → dueBefore (writesFrom first b (count - i) i) cycle ≡ 0
+  pub count-end : count ≤ i → dueBefore (writesFrom l b (count - i) i) cycle ≡ 0
   unfolding writesFrom dueBefore
   count-end h = let z : count - i ≡ 0 = omega arith in rw z
 
-pub earlier-of : (b : List ℕ) (i : ℕ) → (i ≡ 0 → ⊥) → {d : ℕ} → d ≡ dueAt first b (i - 1) → d ≡ dueEarlier first b i
+pub earlier-of : (l : Layout) (b : List ℕ) (i : ℕ) → (i ≡ 0 → ⊥) → {d : ℕ} → d ≡ dueAt l b (i - 1) → d ≡ dueEarlier l b i
 unfolding dueEarlier
-earlier-of b zero n e = absurd (n refl)
-earlier-of b (suc i) n e = e ∙ ap (dueAt first b) (omega arith)
+earlier-of l b zero n e = absurd (n refl)
+earlier-of l b (suc i) n e = e ∙ ap (dueAt l b) (omega arith)
 
 -- what stands at a place of the writes
 
@@ -125,82 +136,71 @@ module _ (l : Layout) (b : List ℕ) where
 
 -- the answers by a check's answer
 
-module _ {c : Checked} (b : List ℕ) where
-  pub entry-read : {count cycles i : ℕ} {w : Write} → c ≡ checked.Log count cycles → i < count → w ≡ writeAt first b i → entries.Write w ≡ entryIn first c b i
+module _ {c : Checked} (l : Layout) (b : List ℕ) where
+  pub entry-read : {count cycles i : ℕ} {w : Write} → c ≡ checked.Log count cycles → i < count → w ≡ writeAt l b i → entries.Write w ≡ entryIn l c b i
   unfolding entryIn
-  entry-read {i = i} q h e = rw (q, handed-in first b _ 0 i h, e) (ap (λ (k : ℕ). entries.Write (writeAt first b k)) (omega arith))
+  entry-read {i = i} q h e = rw (q, handed-in l b _ 0 i h, e) (ap (λ (k : ℕ). entries.Write (writeAt l b k)) (omega arith))
 
-  pub entry-ended : {count cycles i : ℕ} → c ≡ checked.Log count cycles → count ≤ i → entries.Ended ≡ entryIn first c b i
+  pub entry-ended : {count cycles i : ℕ} → c ≡ checked.Log count cycles → count ≤ i → entries.Ended ≡ entryIn l c b i
   unfolding entryIn
-  entry-ended {i = i} q h = rw (q, handed-past first b _ 0 i h)
+  entry-ended {i = i} q h = rw (q, handed-past l b _ 0 i h)
 
-  pub entry-refused : {why : Refusal} (i : ℕ) → c ≡ checked.Refused why → entries.Refused why ≡ entryIn first c b i
+  pub entry-refused : {why : Refusal} (i : ℕ) → c ≡ checked.Refused why → entries.Refused why ≡ entryIn l c b i
   unfolding entryIn
   entry-refused i q = rw q
 
-  pub counted-in : {count cycles n : ℕ} (cycle : ℕ) → c ≡ checkOf first b → c ≡ checked.Log count cycles → n ≡ dueBefore (writesFrom first b count 0) cycle → counts.Number n ≡ dueBeforeOf first b cycle
+  pub counted-in : {count cycles n : ℕ} (cycle : ℕ) → c ≡ checkOf l b → c ≡ checked.Log count cycles → n ≡ dueBefore (writesFrom l b count 0) cycle → counts.Number n ≡ dueBeforeOf l b cycle
   unfolding countIn
   counted-in cycle p q e = rw (← p, q, e)
 
-  pub counted-refused : {why : Refusal} (cycle : ℕ) → c ≡ checkOf first b → c ≡ checked.Refused why → counts.Refused why ≡ dueBeforeOf first b cycle
+  pub counted-refused : {why : Refusal} (cycle : ℕ) → c ≡ checkOf l b → c ≡ checked.Refused why → counts.Refused why ≡ dueBeforeOf l b cycle
   unfolding countIn
   counted-refused cycle p q = rw (← p, q)
 
-pub count-start : (b : List ℕ) (count cycle : ℕ) → 0 + dueBefore (writesFrom first b (count - 0) 0) cycle ≡ dueBefore (writesFrom first b count 0) cycle
-count-start b count cycle = let z : count - 0 ≡ count = omega arith in rw z (omega arith)
+pub count-start : (l : Layout) (b : List ℕ) (count cycle : ℕ) → 0 + dueBefore (writesFrom l b (count - 0) 0) cycle ≡ dueBefore (writesFrom l b count 0) cycle
+count-start l b count cycle = let z : count - 0 ≡ count = omega arith in rw z (omega arith)
 
--- the numbers and the values
+-- what an answer tells is the order's first fault
 
-module _ (f : Checked → ℕ) (told : ℕ → ℕ → ℕ) (log : (c k : ℕ) → f (checked.Log c k) ≡ 0) (refused : (why : Refusal) → f (checked.Refused why) ≡ told (numberOf why) (carriedOf why)) where
-  scan-told : (l : Layout) (b : List ℕ) (count cycles n i : ℕ) → f (scan l b count cycles n i) ≡ scanTold (told 8) l b cycles n i
-  unfolding scan scanTold
-  scan-told l b count cycles zero i = log count cycles
-  scan-told l b count cycles (suc n) i = chosen f (faulty l b cycles i) (refused (LogEntry i)) (scan-told l b count cycles n (suc i))
+check-answer : (l : Layout) (b : List ℕ) → checkedAnswer (checkOf l b) ≡ logAnswer l b
+unfolding checkOf
+check-answer l b = by (logAnswer l b)
+  where
+    by : (a : Answer) → checkedAnswer (checkedBy a (countOf b) (cyclesOf l b)) ≡ a
+    by Accepted = refl
+    by (Refused why) = refl
 
-  check-told : (l : Layout) (b : List ℕ) → f (checkOf l b) ≡ checkTold told l b
-  unfolding checkOf checkTold
-  check-told l b =
-      chosen f (ltb (length b) (l .header)) (refused LogShort)
-      (chosen f (not (eqb (editionOf b) (l .edition))) (refused LogEdition)
-      (chosen f (not (eqb (headerOf b) (l .header)) || not (eqb (offsetOf b) (l .header))) (refused LogHeader)
-      (chosen f (ltb 1000000 (countOf b)) (refused LogCount)
-      (chosen f (not (eqb (length b) (place l (countOf b)))) (refused LogSize)
-      (scan-told l b (countOf b) (cyclesOf l b) (countOf b) 0)))))
+entry-answer : (l : Layout) (b : List ℕ) (c : Checked) (i : ℕ) → entryAnswer (entryIn l c b i) ≡ checkedAnswer c
+unfolding entryIn handed
+entry-answer l b (checked.Log count cycles) i = none (writesFrom l b count 0) i
+  where
+    none : (ws : List Write) (j : ℕ) → entryAnswer (handed ws j) ≡ Accepted
+    none [] j = refl
+    none (w ∷ ws) zero = refl
+    none (w ∷ ws) (suc j) = none ws j
+entry-answer l b (checked.Refused why) i = refl
+
+counted-answer : (l : Layout) (b : List ℕ) (c : Checked) (cycle : ℕ) → countedAnswer (countIn l c b cycle) ≡ checkedAnswer c
+unfolding countIn
+counted-answer l b (checked.Log count cycles) cycle = refl
+counted-answer l b (checked.Refused why) cycle = refl
 
 module _ (l : Layout) (b : List ℕ) where
-  check-number : checkedNumber (checkOf l b) ≡ checkNumber l b
-  check-number = check-told checkedNumber (λ n v. n) (λ c k. refl) (λ why. refl) l b
+  pub check-tells : {r : Checked} → r ≡ checkOf l b → (r ≡ checkOf l b) × Tells (checkedAnswer r) (logAnswer l b)
+  check-tells e = (e, order.tells (ap checkedAnswer e ∙ check-answer l b))
 
-  check-carried : checkedCarried (checkOf l b) ≡ checkCarried l b
-  check-carried = check-told checkedCarried (λ n v. v) (λ c k. refl) (λ why. refl) l b
+  -- a header at fault
+  pub refused : {why : Refusal} → logAnswer l b ≡ Refused why → (checked.Refused why ≡ checkOf l b) × Tells (Refused why) (logAnswer l b)
+  unfolding checkOf
+  refused h = check-tells (by-refused (countOf b) (cyclesOf l b) h)
 
-  pub numbered : {r : Checked} → r ≡ checkOf l b → (r ≡ checkOf l b) × ((checkedNumber r ≡ checkNumber l b) × (checkedCarried r ≡ checkCarried l b))
-  numbered e = (e, (ap checkedNumber e ∙ check-number, ap checkedCarried e ∙ check-carried))
+  pub read-tells : (c : Checked) (i : ℕ) {r : Read} → r ≡ entryIn l c b i → (r ≡ entryIn l c b i) × Tells (entryAnswer r) (checkedAnswer c)
+  read-tells c i e = (e, order.tells (ap entryAnswer e ∙ entry-answer l b c i))
 
-  read-told : (c : Checked) (i : ℕ) → (readNumber (entryIn l c b i) ≡ checkedNumber c) × (readCarried (entryIn l c b i) ≡ checkedCarried c)
-  unfolding entryIn handed
-  read-told (checked.Log count cycles) i = none (writesFrom l b count 0) i
-    where
-      none : (ws : List Write) (j : ℕ) → (readNumber (handed ws j) ≡ 0) × (readCarried (handed ws j) ≡ 0)
-      none [] j = (refl, refl)
-      none (w ∷ ws) zero = (refl, refl)
-      none (w ∷ ws) (suc j) = none ws j
-  read-told (checked.Refused why) i = (refl, refl)
+  pub entry-tells : {c : Checked} (i : ℕ) {r : Read} → c ≡ checkOf l b → r ≡ entryIn l c b i → (r ≡ entryOf l b i) × Tells (entryAnswer r) (logAnswer l b)
+  entry-tells {c} i p e =
+      (e ∙ ap (λ (x : Checked). entryIn l x b i) p, order.tells (ap entryAnswer e ∙ entry-answer l b c i ∙ ap checkedAnswer p ∙ check-answer l b))
 
-  pub read-numbered : (c : Checked) (i : ℕ) {r : Read} → r ≡ entryIn l c b i → (r ≡ entryIn l c b i) × (readNumber r ≡ checkedNumber c) × (readCarried r ≡ checkedCarried c)
-  read-numbered c i e = let t = read-told c i in (e, ap readNumber e ∙ t .0, ap readCarried e ∙ t .1)
-
-  pub read-of : {c : Checked} (i : ℕ) {r : Read} → c ≡ checkOf l b → r ≡ entryIn l c b i → (r ≡ entryOf l b i) × ((readNumber r ≡ checkNumber l b) × (readCarried r ≡ checkCarried l b))
-  read-of {c} i p e =
-      let t = read-told c i in
-      (e ∙ ap (λ (x : Checked). entryIn l x b i) p, (ap readNumber e ∙ t .0 ∙ ap checkedNumber p ∙ check-number, ap readCarried e ∙ t .1 ∙ ap checkedCarried p ∙ check-carried))
-
-  counted-told : (c : Checked) (cycle : ℕ) → (countedNumber (countIn l c b cycle) ≡ checkedNumber c) × (countedCarried (countIn l c b cycle) ≡ checkedCarried c)
-  unfolding countIn
-  counted-told (checked.Log count cycles) cycle = (refl, refl)
-  counted-told (checked.Refused why) cycle = (refl, refl)
-
-  pub counted-numbered : {r : Counted} (cycle : ℕ) → r ≡ dueBeforeOf l b cycle → (r ≡ dueBeforeOf l b cycle) × ((countedNumber r ≡ checkNumber l b) × (countedCarried r ≡ checkCarried l b))
-  counted-numbered cycle e =
-      let t = counted-told (checkOf l b) cycle in
-      (e, (ap countedNumber e ∙ t .0 ∙ check-number, ap countedCarried e ∙ t .1 ∙ check-carried))
+  pub count-tells : {r : Counted} (cycle : ℕ) → r ≡ dueBeforeOf l b cycle → (r ≡ dueBeforeOf l b cycle) × Tells (countedAnswer r) (logAnswer l b)
+  count-tells cycle e =
+      (e, order.tells (ap countedAnswer e ∙ counted-answer l b (checkOf l b) cycle ∙ check-answer l b))

@@ -1,5 +1,5 @@
 -- What a reader hands out, read by read: the writes of an accepted log in their order, then that it has ended, any number of times.
-use Prim.Native.Nat.{ℕ, zero, suc, _+_, _-_, _<_, _≤_}
+use Prim.Native.Nat.{ℕ, zero, suc, _+_, _<_, _≤_}
 use mathlib.Core.Path.{_≡_, refl, sym, ap, _∙_}
 use mathlib.Core.Bool.{Bool, true, false}
 use mathlib.Core.List.{List, [], _∷_}
@@ -10,7 +10,7 @@ use lib.ListN.{getD, length}
 use Rattle.refusal.specs.declared.Refusal.{Refusal}
 use Rattle.log.proofs.AcceptedLaws.{accepted, writes-at, writes-length}
 use Rattle.log.proofs.LogLaws.{handed-in, handed-past}
-use Rattle.log.specs.Log.{Layout, checkOf, entriesIn, entryIn, entryOf, handed, placeAfter, placeOn, writesFrom, writesOf}
+use Rattle.log.specs.Log.{Layout, checkOf, entriesIn, entryIn, entryOf, handed, placeAfter, writesFrom, writesOf}
 use Rattle.log.specs.declared.Checked.{Checked}
 use Rattle.log.specs.declared.Checked.the-variants as checked
 use Rattle.log.specs.declared.Read.{Read}
@@ -76,7 +76,10 @@ module _ (l : Layout) (b : List ℕ) {c : Checked} where
   unfolding entryIn
   read-handed i e n k p q = e ∙ rw (q, accepted l b n k p .count)
 
--- read by read, from a new reader on
+-- read by read, from a new reader on: its place after k reads
+unfoldable pub placeOn : Checked → ℕ → ℕ
+placeOn c zero = 0
+placeOn c (suc k) = placeAfter c (placeOn c k)
 
 module _ (l : Layout) (b : List ℕ) where
   module _ {n k : ℕ} (e : checkOf l b ≡ checked.Log n k) where

@@ -1,12 +1,13 @@
 -- The register log, in document 01's words.
 use Prim.Native.Nat.{ℕ, zero, suc, _+_, _*_}
-use mathlib.Core.Bool.{Bool, true, false, cond, not, _&&_, _||_}
+use mathlib.Core.Bool.{Bool, cond, not, _&&_, _||_}
 use mathlib.Core.List.{List, [], _∷_}
 use lib.Dec.{eqb, leb, ltb}
 use lib.ListN.{getD, length}
 use Rattle.little.specs.Little.{number}
-use Rattle.refusal.specs.Refusal.{numberOf, carriedOf}
-use Rattle.refusal.specs.declared.Refusal.{Refusal}
+use Rattle.refusal.specs.Refusal.{fault, _then_}
+use Rattle.refusal.specs.declared.Answer.{Answer}
+use Rattle.refusal.specs.declared.Answer.the-variants.{Accepted, Refused}
 use Rattle.refusal.specs.declared.Refusal.the-variants.{LogShort, LogEdition, LogHeader, LogCount, LogSize, LogEntry}
 use Rattle.log.specs.declared.Checked.{Checked}
 use Rattle.log.specs.declared.Checked.the-variants as checked
@@ -24,8 +25,8 @@ pub record Layout : Type 0 where
   pub due : ℕ
 
 -- "u16 edition 1, u16 header length 16"; "Entry 8: u32 due cycle, u16 address, byte, zero"
-abbrev pub first : Layout
-first = record { edition = 1; header = 16; entry = 8; due = 4 }
+abbrev pub edition1 : Layout
+edition1 = record { edition = 1; header = 16; entry = 8; due = 4 }
 
 -- Header: "u16 edition 1, u16 header length 16, u32 count, u32 entry offset 16, u32 length L in cycles"
 
@@ -46,71 +47,63 @@ cyclesOf l b = number (l .due) b 12
 
 -- Entries.
 
-abbrev pub place : Layout → ℕ → ℕ
-place l i = l .header + l .entry * i
+abbrev pub entryPlace : Layout → ℕ → ℕ
+entryPlace l i = l .header + l .entry * i
 
 unfoldable pub dueAt : Layout → List ℕ → ℕ → ℕ
-dueAt l b i = number (l .due) b (place l i)
+dueAt l b i = number (l .due) b (entryPlace l i)
 
 unfoldable pub writeAt : Layout → List ℕ → ℕ → Write
 writeAt l b i =
-    record { due = dueAt l b i; address = number 2 b (place l i + l .due); byte = getD b (place l i + (l .due + 2)) 0 }
+    record { due = dueAt l b i; address = number 2 b (entryPlace l i + l .due); byte = getD b (entryPlace l i + (l .due + 2)) 0 }
 
 -- the due cycle of the entry before, 0 for the first
 unfoldable pub dueEarlier : Layout → List ℕ → ℕ → ℕ
 dueEarlier l b zero = 0
 dueEarlier l b (suc i) = dueAt l b i
 
--- an entry is at fault where its last byte is not zero, its due cycle is not below L, or it falls below the one before
-unfoldable pub faulty : Layout → List ℕ → ℕ → ℕ → Bool
-faulty l b cycles i =
-    not (eqb (getD b (place l i + (l .due + 3)) 0) 0) || leb cycles (dueAt l b i) || ltb (dueAt l b i) (dueEarlier l b i)
+-- an entry's last byte is not zero, its due cycle is not below L, or it falls below an earlier one
+unfoldable pub entryUnfit : Layout → List ℕ → ℕ → ℕ → ℕ → Bool
+entryUnfit l b cycles earlier i =
+    not (eqb (getD b (entryPlace l i + (l .due + 3)) 0) 0) || leb cycles (dueAt l b i) || ltb (dueAt l b i) earlier
+
+-- "Due cycles never fall": in a log the earlier one is that of the entry before
+abbrev pub entryFaulty : Layout → List ℕ → ℕ → ℕ → Bool
+entryFaulty l b cycles i = entryUnfit l b cycles (dueEarlier l b i) i
+
+-- The order of refusals.
 
 -- 8, "entry at fault: carries the first such index": the n entries from i on
-unfoldable pub scan : Layout → List ℕ → ℕ → ℕ → ℕ → ℕ → Checked
-scan l b count cycles zero i = checked.Log count cycles
-scan l b count cycles (suc n) i =
-    cond (faulty l b cycles i) (checked.Refused (LogEntry i)) (scan l b count cycles n (suc i))
+unfoldable pub entriesAnswer : Layout → List ℕ → ℕ → ℕ → ℕ → Answer
+entriesAnswer l b cycles zero i = Accepted
+entriesAnswer l b cycles (suc n) i = fault (entryFaulty l b cycles i) (LogEntry i) then entriesAnswer l b cycles n (suc i)
 
--- 3 to 7, "log under 16 bytes; edition; header length or entry offset; count; size", then 8
+-- "Count at most 1,000,000"
+abbrev pub mostEntries : ℕ
+mostEntries = 1000000
+
+-- "log 3 to 8": "log under 16 bytes; edition; header length or entry offset; count; size", then the entries
+unfoldable pub logAnswer : Layout → List ℕ → Answer
+logAnswer l b =
+    fault (ltb (length b) (l .header)) LogShort
+    then fault (not (eqb (editionOf b) (l .edition))) LogEdition
+    then fault (not (eqb (headerOf b) (l .header)) || not (eqb (offsetOf b) (l .header))) LogHeader
+    then fault (ltb mostEntries (countOf b)) LogCount
+    then fault (not (eqb (length b) (entryPlace l (countOf b)))) LogSize
+    then entriesAnswer l b (cyclesOf l b) (countOf b) 0
+
+-- what a check answers: the number of entries and L, or the refusal
+
+abbrev pub checkedBy : Answer → ℕ → ℕ → Checked
+checkedBy Accepted count cycles = checked.Log count cycles
+checkedBy (Refused why) count cycles = checked.Refused why
+
 unfoldable pub checkOf : Layout → List ℕ → Checked
-checkOf l b =
-    cond (ltb (length b) (l .header)) (checked.Refused LogShort)
-    (cond (not (eqb (editionOf b) (l .edition))) (checked.Refused LogEdition)
-    (cond (not (eqb (headerOf b) (l .header)) || not (eqb (offsetOf b) (l .header))) (checked.Refused LogHeader)
-    (cond (ltb 1000000 (countOf b)) (checked.Refused LogCount)
-    (cond (not (eqb (length b) (place l (countOf b)))) (checked.Refused LogSize)
-    (scan l b (countOf b) (cyclesOf l b) (countOf b) 0)))))
+checkOf l b = checkedBy (logAnswer l b) (countOf b) (cyclesOf l b)
 
--- 01's number of an answer, 0 where the bytes are a log, and the value that it carries.
-
-abbrev pub checkedNumber : Checked → ℕ
-checkedNumber (checked.Log count cycles) = 0
-checkedNumber (checked.Refused why) = numberOf why
-
-abbrev pub checkedCarried : Checked → ℕ
-checkedCarried (checked.Log count cycles) = 0
-checkedCarried (checked.Refused why) = carriedOf why
-
--- what is told of the first entry at fault, 0 where there is none
-unfoldable pub scanTold : (ℕ → ℕ) → Layout → List ℕ → ℕ → ℕ → ℕ → ℕ
-scanTold eight l b cycles zero i = 0
-scanTold eight l b cycles (suc n) i = cond (faulty l b cycles i) (eight i) (scanTold eight l b cycles n (suc i))
-
--- what is told of an answer's number and its carried value
-unfoldable pub checkTold : (ℕ → ℕ → ℕ) → Layout → List ℕ → ℕ
-checkTold told l b =
-    cond (ltb (length b) (l .header)) (told 3 0)
-    (cond (not (eqb (editionOf b) (l .edition))) (told 4 0)
-    (cond (not (eqb (headerOf b) (l .header)) || not (eqb (offsetOf b) (l .header))) (told 5 0)
-    (cond (ltb 1000000 (countOf b)) (told 6 0)
-    (cond (not (eqb (length b) (place l (countOf b)))) (told 7 0) (scanTold (told 8) l b (cyclesOf l b) (countOf b) 0)))))
-
-abbrev pub checkNumber : Layout → List ℕ → ℕ
-checkNumber l b = checkTold (λ (number : ℕ) (carried : ℕ). number) l b
-
-abbrev pub checkCarried : Layout → List ℕ → ℕ
-checkCarried l b = checkTold (λ (number : ℕ) (carried : ℕ). carried) l b
+abbrev pub checkedAnswer : Checked → Answer
+checkedAnswer (checked.Log count cycles) = Accepted
+checkedAnswer (checked.Refused why) = Refused why
 
 -- Writes.
 
@@ -149,23 +142,23 @@ countIn l (checked.Refused why) b cycle = counted.Refused why
 abbrev pub dueBeforeOf : Layout → List ℕ → ℕ → Counted
 dueBeforeOf l b cycle = countIn l (checkOf l b) b cycle
 
-abbrev pub readNumber : Read → ℕ
-readNumber (entries.Write w) = 0
-readNumber entries.Ended = 0
-readNumber (entries.Refused why) = numberOf why
+-- the answer of a read, and of a count
 
-abbrev pub readCarried : Read → ℕ
-readCarried (entries.Write w) = 0
-readCarried entries.Ended = 0
-readCarried (entries.Refused why) = carriedOf why
+abbrev pub entryAnswer : Read → Answer
+entryAnswer (entries.Write w) = Accepted
+entryAnswer entries.Ended = Accepted
+entryAnswer (entries.Refused why) = Refused why
 
-abbrev pub countedNumber : Counted → ℕ
-countedNumber (counted.Number n) = 0
-countedNumber (counted.Refused why) = numberOf why
+abbrev pub countedAnswer : Counted → Answer
+countedAnswer (counted.Number n) = Accepted
+countedAnswer (counted.Refused why) = Refused why
 
-abbrev pub countedCarried : Counted → ℕ
-countedCarried (counted.Number n) = 0
-countedCarried (counted.Refused why) = carriedOf why
+-- A reader's place after a read: one on where it stands at an entry, else the same.
+unfoldable pub placeAfter : Checked → ℕ → ℕ
+placeAfter (checked.Log count cycles) i = cond (ltb i count) (suc i) i
+placeAfter (checked.Refused why) i = i
+
+-- What inner contracts and a quick test of the code go by; nothing to believe.
 
 -- Whether k is the number of entries due before a cycle, by two of an accepted log's entries: the last of the first k is due
 -- before it, and the one after them is not.
@@ -173,17 +166,7 @@ unfoldable pub standsAt : Layout → List ℕ → ℕ → ℕ → ℕ → Bool
 standsAt l b count cycle k =
     leb k count && (eqb k 0 || ltb (dueEarlier l b k) cycle) && (leb count k || leb cycle (dueAt l b k))
 
--- A reader's place after a read: one on where it stands at an entry, else the same.
-unfoldable pub placeAfter : Checked → ℕ → ℕ
-placeAfter (checked.Log count cycles) i = cond (ltb i count) (suc i) i
-placeAfter (checked.Refused why) i = i
-
--- its place after k reads from the first entry on
-unfoldable pub placeOn : Checked → ℕ → ℕ
-placeOn c zero = 0
-placeOn c (suc k) = placeAfter c (placeOn c k)
-
--- how many entries it has to hand out
+-- how many entries a reader has to hand out
 abbrev pub entriesIn : Checked → ℕ
 entriesIn (checked.Log count cycles) = count
 entriesIn (checked.Refused why) = 0

@@ -3,12 +3,12 @@ pub mod reader;
 
 use refusal::Refusal;
 ghost use mathlib.Core.Path.{_≡_};
-ghost use mathlib.Core.Bool.{true};
 ghost use Prim.Native.Nat.{ℕ, _+_, _<_, _≤_};
 ghost use lib.Dec.{eqb};
 ghost use lib.ListN.{length};
 ghost use Rattle.little.specs.Little.{number};
-ghost use Rattle.log.specs.Log.{first, place, checkOf, scan, writeAt, dueAt, dueBefore, writesFrom, entryIn, entryOf, dueBeforeOf, dueEarlier, standsAt, checkedNumber, checkedCarried, checkNumber, checkCarried, readNumber, readCarried, countedNumber, countedCarried};
+ghost use Rattle.refusal.specs.Refusal.{Tells};
+ghost use Rattle.log.specs.Log.{edition1, entryPlace, mostEntries, logAnswer, checkedBy, checkOf, checkedAnswer, entriesAnswer, writeAt, dueAt, dueBefore, writesFrom, entryIn, entryOf, entryAnswer, dueBeforeOf, countedAnswer, dueEarlier, standsAt};
 
 pub struct Write {
     pub due: u32,
@@ -35,24 +35,24 @@ pub enum Counted {
     Refused(Refusal),
 }
 
-fn place(index: u32) -> usize
-    ensures { λ r. ⌜ r ≡ place first index ⌝ }
+fn entry_place(index: u32) -> usize
+    ensures { λ r. ⌜ r ≡ entryPlace edition1 index ⌝ }
 {
     16 + 8 * (index as usize)
 }
 
 // The due cycle of an entry; of bytes that aren't there, 0.
 pub fn due_at(log: &[u8], index: u32) -> u32
-    ensures { λ r. ⌜ r ≡ dueAt first (now (log .entry)) index ⌝ }
+    ensures { λ r. ⌜ r ≡ dueAt edition1 (now (log .entry)) index ⌝ }
 {
-    little::u32_at(log, place(index))
+    little::u32_at(log, entry_place(index))
 }
 
 // An entry's write; of bytes that aren't there, zeros.
 pub fn write_at(log: &[u8], index: u32) -> Write
-    ensures { λ r. ⌜ r ≡ writeAt first (now (log .entry)) index ⌝ }
+    ensures { λ r. ⌜ r ≡ writeAt edition1 (now (log .entry)) index ⌝ }
 {
-    let at = place(index);
+    let at = entry_place(index);
     Write {
         due: little::u32_at(log, at),
         address: little::u16_at(log, at + 4),
@@ -78,13 +78,13 @@ fn due_in(log: &[u8], at: usize) -> u32
 }
 
 fn check_entries(log: &[u8], count: u32, cycles: u32) -> Checked
-    requires { ⌜ (count ≤ 1000000) × (length (now log) ≡ place first count) ⌝ }
-    ensures { λ r. ⌜ r ≡ scan first (now (log .entry)) count cycles count 0 ⌝ }
+    requires { ⌜ (count ≤ mostEntries) × (length (now log) ≡ entryPlace edition1 count) ⌝ }
+    ensures { λ r. ⌜ r ≡ checkedBy (entriesAnswer edition1 (now (log .entry)) cycles count 0) count cycles ⌝ }
 {
     let mut before = 0;
     let mut i = 0;
     while i < count {
-        let at = place(i);
+        let at = entry_place(i);
         let due = due_in(log, at);
         if (log[at + 7] != 0) | (due >= cycles) | (due < before) {
             return Checked::Refused(Refusal::LogEntry(i));
@@ -100,9 +100,7 @@ fn check_entries(log: &[u8], count: u32, cycles: u32) -> Checked
 
 // Refusals 3 to 8, or the number of entries and L.
 pub fn check_log(log: &[u8]) -> Checked
-    ensures { λ r. ⌜ r ≡ checkOf first (now (log .entry)) ⌝ }
-    ensures { λ r. ⌜ checkedNumber r ≡ checkNumber first (now (log .entry)) ⌝ }
-    ensures { λ r. ⌜ checkedCarried r ≡ checkCarried first (now (log .entry)) ⌝ }
+    ensures { λ r. ⌜ (r ≡ checkOf edition1 (now (log .entry))) × Tells (checkedAnswer r) (logAnswer edition1 (now (log .entry))) ⌝ }
 {
     if log.len() < 16 {
         return Checked::Refused(Refusal::LogShort);
@@ -117,15 +115,15 @@ pub fn check_log(log: &[u8]) -> Checked
     if count > 1_000_000 {
         return Checked::Refused(Refusal::LogCount);
     }
-    if log.len() != place(count) {
+    if log.len() != entry_place(count) {
         return Checked::Refused(Refusal::LogSize);
     }
     check_entries(log, count, little::u32_at(log, 12))
 }
 
 // The write of an entry, or that the log has ended, by the answer of a check.
-pub fn entry_in(log: &[u8], checked: Checked, index: u32) -> Read
-    ensures { λ r. ⌜ (r ≡ entryIn first checked (now (log .entry)) index) × (readNumber r ≡ checkedNumber checked) × (readCarried r ≡ checkedCarried checked) ⌝ }
+pub(crate) fn entry_in(log: &[u8], checked: Checked, index: u32) -> Read
+    ensures { λ r. ⌜ (r ≡ entryIn edition1 checked (now (log .entry)) index) × Tells (entryAnswer r) (checkedAnswer checked) ⌝ }
 {
     match checked {
         Checked::Log { count, cycles: _ } => {
@@ -140,15 +138,13 @@ pub fn entry_in(log: &[u8], checked: Checked, index: u32) -> Read
 
 // The same of any bytes, by a check of its own.
 pub fn entry(log: &[u8], index: u32) -> Read
-    ensures { λ r. ⌜ r ≡ entryOf first (now (log .entry)) index ⌝ }
-    ensures { λ r. ⌜ readNumber r ≡ checkNumber first (now (log .entry)) ⌝ }
-    ensures { λ r. ⌜ readCarried r ≡ checkCarried first (now (log .entry)) ⌝ }
+    ensures { λ r. ⌜ (r ≡ entryOf edition1 (now (log .entry)) index) × Tells (entryAnswer r) (logAnswer edition1 (now (log .entry))) ⌝ }
 {
     entry_in(log, check_log(log), index)
 }
 
 fn count_due(log: &[u8], count: u32, cycle: u32) -> u32
-    ensures { λ r. ⌜ r ≡ dueBefore (writesFrom first (now (log .entry)) count 0) cycle ⌝ }
+    ensures { λ r. ⌜ r ≡ dueBefore (writesFrom edition1 (now (log .entry)) count 0) cycle ⌝ }
 {
     let mut n = 0;
     let mut i = 0;
@@ -164,9 +160,7 @@ fn count_due(log: &[u8], count: u32, cycle: u32) -> u32
 
 // The number of entries due before a cycle.
 pub fn due_before(log: &[u8], cycle: u32) -> Counted
-    ensures { λ r. ⌜ r ≡ dueBeforeOf first (now (log .entry)) cycle ⌝ }
-    ensures { λ r. ⌜ countedNumber r ≡ checkNumber first (now (log .entry)) ⌝ }
-    ensures { λ r. ⌜ countedCarried r ≡ checkCarried first (now (log .entry)) ⌝ }
+    ensures { λ r. ⌜ (r ≡ dueBeforeOf edition1 (now (log .entry)) cycle) × Tells (countedAnswer r) (logAnswer edition1 (now (log .entry))) ⌝ }
 {
     let c = check_log(log);
     match c {
@@ -177,7 +171,7 @@ pub fn due_before(log: &[u8], cycle: u32) -> Counted
 
 // The due cycle of the entry before, 0 for the first.
 fn due_earlier(log: &[u8], index: u32) -> u32
-    ensures { λ r. ⌜ r ≡ dueEarlier first (now (log .entry)) index ⌝ }
+    ensures { λ r. ⌜ r ≡ dueEarlier edition1 (now (log .entry)) index ⌝ }
 {
     if index == 0 {
         return 0;
@@ -187,8 +181,8 @@ fn due_earlier(log: &[u8], index: u32) -> u32
 
 // Whether `number` entries of an accepted log of `count` are due before `cycle`, by two reads and no pass.
 pub fn stands_at(log: &[u8], count: u32, cycle: u32, number: u32) -> bool
-    ensures { λ r. ⌜ r ≡ standsAt first (now (log .entry)) count cycle number ⌝ }
-    ensures { λ r. ⌜ ((k : ℕ) → checkOf first (now (log .entry)) ≡ Checked.Log count k → r ≡ eqb number (dueBefore (writesFrom first (now (log .entry)) count 0) cycle)) ⌝ }
+    ensures { λ r. ⌜ r ≡ standsAt edition1 (now (log .entry)) count cycle number ⌝ }
+    ensures { λ r. ⌜ ((k : ℕ) → checkOf edition1 (now (log .entry)) ≡ Checked.Log count k → r ≡ eqb number (dueBefore (writesFrom edition1 (now (log .entry)) count 0) cycle)) ⌝ }
 {
     let earlier = due_earlier(log, number);
     let next = due_at(log, number);

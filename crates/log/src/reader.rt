@@ -3,12 +3,13 @@ use crate::Checked;
 use crate::Read;
 ghost use mathlib.Core.Path.{_≡_};
 ghost use Prim.Native.Nat.{ℕ};
-ghost use Rattle.log.specs.Log.{first, checkOf, entryIn, handed, placeAfter, writesOf, readNumber, readCarried, checkedNumber, checkedCarried};
+ghost use Rattle.refusal.specs.Refusal.{Tells};
+ghost use Rattle.log.specs.Log.{edition1, checkOf, entryIn, handed, placeAfter, writesOf, entryAnswer, checkedAnswer};
 
 pub struct Reader<'a> {
-    pub log: &'a [u8],
-    pub checked: Checked,
-    pub at: u32,
+    log: &'a [u8],
+    checked: Checked,
+    at: u32,
 }
 
 // What stands at a place, and the place after it.
@@ -18,7 +19,7 @@ pub struct Step {
 }
 
 // The place after an entry; where there is none, the same.
-fn after(checked: Checked, at: u32) -> u32
+fn place_after(checked: Checked, at: u32) -> u32
     ensures { λ r. ⌜ r ≡ placeAfter checked at ⌝ }
 {
     match checked {
@@ -34,7 +35,7 @@ fn after(checked: Checked, at: u32) -> u32
 
 // A reader that stands at the log's first entry.
 pub fn new<'a>(log: &'a [u8]) -> Reader<'a>
-    ensures { λ r. ⌜ (r .log ≡ log .entry) × (r .checked ≡ checkOf first (now (log .entry))) × (r .at ≡ 0) ⌝ }
+    ensures { λ r. ⌜ (r .log ≡ log .entry) × (r .checked ≡ checkOf edition1 (now (log .entry))) × (r .at ≡ 0) ⌝ }
 {
     Reader {
         log,
@@ -45,7 +46,7 @@ pub fn new<'a>(log: &'a [u8]) -> Reader<'a>
 
 // What stands at the reader's place; of an accepted log that is the write of that number, or that the log has ended.
 pub fn next<'a>(r: Reader<'a>) -> Read
-    ensures { λ s. ⌜ (s ≡ entryIn first (r .entry .checked) (now (r .entry .log)) (r .entry .at)) × ((n k : ℕ) → checkOf first (now (r .entry .log)) ≡ Checked.Log n k → r .entry .checked ≡ Checked.Log n k → s ≡ handed (writesOf first (now (r .entry .log))) (r .entry .at)) × (readNumber s ≡ checkedNumber (r .entry .checked)) × (readCarried s ≡ checkedCarried (r .entry .checked)) ⌝ }
+    ensures { λ s. ⌜ (s ≡ entryIn edition1 (r .entry .checked) (now (r .entry .log)) (r .entry .at)) × ((n k : ℕ) → checkOf edition1 (now (r .entry .log)) ≡ Checked.Log n k → r .entry .checked ≡ Checked.Log n k → s ≡ handed (writesOf edition1 (now (r .entry .log))) (r .entry .at)) × Tells (entryAnswer s) (checkedAnswer (r .entry .checked)) ⌝ }
 {
     crate::entry_in(r.log, r.checked, r.at)
 }
@@ -57,13 +58,13 @@ pub fn moved<'a>(r: Reader<'a>) -> Reader<'a>
     Reader {
         log: r.log,
         checked: r.checked,
-        at: after(r.checked, r.at),
+        at: place_after(r.checked, r.at),
     }
 }
 
 // Reads and moves on, by the parts of a reader, which a caller keeps: the log, the answer of its check, and the place.
 pub fn read_on(log: &[u8], checked: Checked, at: u32) -> Step
-    ensures { λ s. ⌜ (s .read ≡ entryIn first checked (now (log .entry)) at) × ((n k : ℕ) → checkOf first (now (log .entry)) ≡ Checked.Log n k → checked ≡ Checked.Log n k → s .read ≡ handed (writesOf first (now (log .entry))) at) × (s .at ≡ placeAfter checked at) × (readNumber (s .read) ≡ checkedNumber checked) × (readCarried (s .read) ≡ checkedCarried checked) ⌝ }
+    ensures { λ s. ⌜ (s .read ≡ entryIn edition1 checked (now (log .entry)) at) × ((n k : ℕ) → checkOf edition1 (now (log .entry)) ≡ Checked.Log n k → checked ≡ Checked.Log n k → s .read ≡ handed (writesOf edition1 (now (log .entry))) at) × (s .at ≡ placeAfter checked at) × Tells (entryAnswer (s .read)) (checkedAnswer checked) ⌝ }
 {
     let r = Reader { log, checked, at };
     Step {

@@ -12,47 +12,36 @@ use Rattle.little.proofs.u32_at.Reads as u32-at-reads
 use Rattle.little.proofs.wide.Reads as wide-reads
 use Rattle.little.proofs.wide32.Reads as wide32-reads
 
--- src/lib.rt:60:29
 enum-told : tie.Need-enum-told
 enum-told c = search needs
 
--- src/lib.rt:60:29
 byte-at-requires : tie.Need-byte-at-requires
 byte-at-requires c κs = search needs
 
--- src/lib.rt:60:22
 wide32-requires : tie.Need-wide32-requires
 wide32-requires c κs = search needs
 
--- src/lib.rt:61:28
 enum-told-2 : tie.Need-enum-told-2
 enum-told-2 c = search needs
 
--- src/lib.rt:61:28
 u16-at-requires : tie.Need-u16-at-requires
 u16-at-requires c κs = search needs
 
--- src/lib.rt:61:23
 wide-requires : tie.Need-wide-requires
 wide-requires c κs = search needs
 
--- src/lib.rt:62:23
 enum-told-3 : tie.Need-enum-told-3
 enum-told-3 c = search needs
 
--- src/lib.rt:62:23
 u32-at-requires : tie.Need-u32-at-requires
 u32-at-requires c κs = search needs
 
--- src/lib.rt:56:1
 returns : tie.Need-returns
 returns c = rw (c .before .before .enum-told .given .1) (c .wide32 .ensures ∙ c .before .byte-at .ensures ∙ sym (laws.number-one (now (c .before .before .before .before .before .args .b)) (c .before .before .before .before .before .args .at)))
 
--- src/lib.rt:56:1
 returns-2 : tie.Need-returns-2
 returns-2 c = rw (c .before .before .enum-told2 .given .1) (c .wide .ensures ∙ c .before .u16-at .ensures)
 
--- src/lib.rt:56:1
 returns-3 : tie.Need-returns-3
 returns-3 c = rw (c .before .enum-told3 .given .1) (c .u32-at .ensures)
 

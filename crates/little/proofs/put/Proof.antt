@@ -11,55 +11,42 @@ use Rattle.little.proofs.put_byte.Reads as put-byte-reads
 use Rattle.little.proofs.put_u16.Reads as put-u16-reads
 use Rattle.little.proofs.put_u32.Reads as put-u32-reads
 
--- src/lib.rt:109:31
 enum-told : tie.Need-enum-told
 enum-told c = search needs
 
--- src/lib.rt:109:40
 lowest-requires : tie.Need-lowest-requires
 lowest-requires c κs = search needs
 
--- src/lib.rt:109:22
 put-byte-requires : tie.Need-put-byte-requires
 put-byte-requires c κs = search needs
 
--- src/lib.rt:110:31
 enum-told-2 : tie.Need-enum-told-2
 enum-told-2 c = search needs
 
--- src/lib.rt:110:23
 put-u16-requires : tie.Need-put-u16-requires
 put-u16-requires c κs = search needs
 
--- src/lib.rt:111:31
 enum-told-3 : tie.Need-enum-told-3
 enum-told-3 c = search needs
 
--- src/lib.rt:111:23
 put-u32-requires : tie.Need-put-u32-requires
 put-u32-requires c κs = search needs
 
--- src/lib.rt:105:1
 same-length : tie.Need-same-length
 same-length c = search needs
 
--- src/lib.rt:105:1
 returns : tie.Need-returns
 returns c = rw (c .before .before .before .before .before .enum-told .given .1) (laws.put-one (now (c .before .before .before .before .before .before .before .before .args .out)) (c .before .before .before .before .before .before .before .before .args .at) (c .before .before .before .before .before .before .before .before .args .value) (c .before .before .before .lowest .ensures) (c .before .before .put-byte .ensures))
 
--- src/lib.rt:105:1
 same-length-2 : tie.Need-same-length-2
 same-length-2 c = search needs
 
--- src/lib.rt:105:1
 returns-2 : tie.Need-returns-2
 returns-2 c = rw (c .before .before .before .before .enum-told2 .given .1) (c .before .before .put-u16 .ensures)
 
--- src/lib.rt:105:1
 same-length-3 : tie.Need-same-length-3
 same-length-3 c = search needs
 
--- src/lib.rt:105:1
 returns-3 : tie.Need-returns-3
 returns-3 c = rw (c .before .before .before .before .enum-told3 .given .1) (c .before .before .put-u32 .ensures)
 

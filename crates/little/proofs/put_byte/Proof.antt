@@ -8,19 +8,15 @@ use Rattle.little.proofs.put_byte.Tie as tie
 use Rattle.little.proofs.put_byte.Reads as reads
 use Rattle.little.proofs.put_byte.Lts as lts
 
--- src/lib.rt:82:9
 slice-write-out : tie.Need-slice-write-out
 slice-write-out c = search needs
 
--- src/lib.rt:78:1
 same-length : tie.Need-same-length
 same-length c = search needs
 
--- src/lib.rt:78:1
 returns : tie.Need-returns
 returns c = search needs
 
--- src/lib.rt:78:1
 returns-2 : tie.Need-returns-2
 returns-2 c = sym (set-out _ _ _ (c .if1 .left))
 

@@ -10,35 +10,27 @@ use Rattle.little.proofs.put_u16.Lts as lts
 use Rattle.little.proofs.lowest.Reads as lowest-reads
 use Rattle.little.proofs.put_byte.Reads as put-byte-reads
 
--- src/lib.rt:90:27
 lowest-requires : tie.Need-lowest-requires
 lowest-requires c κs = search needs
 
--- src/lib.rt:90:9
 put-byte-requires : tie.Need-put-byte-requires
 put-byte-requires c κs = search needs
 
--- src/lib.rt:91:23
 add-put-byte : tie.Need-add-put-byte
 add-put-byte c = search needs
 
--- src/lib.rt:91:31
 lowest-requires-2 : tie.Need-lowest-requires-2
 lowest-requires-2 c κs = search needs
 
--- src/lib.rt:91:9
 put-byte-requires-2 : tie.Need-put-byte-requires-2
 put-byte-requires-2 c κs = search needs
 
--- src/lib.rt:86:1
 same-length : tie.Need-same-length
 same-length c = search needs
 
--- src/lib.rt:86:1
 returns : tie.Need-returns
 returns c = laws.put-two (now (c .before .before .before .before .before .before .before .before .before .before .before .before .args .out)) (c .before .before .before .before .before .before .before .before .before .before .before .before .args .at) (c .before .before .before .before .before .before .before .before .before .before .before .before .args .value) (c .before .before .before .before .before .before .before .before .lowest .ensures) (c .before .before .before .lowest2 .ensures) (c .before .before .before .before .before .before .before .put-byte .ensures) (c .before .before .put-byte2 .ensures)
 
--- src/lib.rt:86:1
 returns-2 : tie.Need-returns-2
 returns-2 c = sym (laws.sets-out (now (c .before .before .args .out)) (c .before .before .args .at) (bytes 2 (c .before .before .args .value)) (c .if1 .left))
 

@@ -9,27 +9,21 @@ use Rattle.little.proofs.put_u32.Reads as reads
 use Rattle.little.proofs.put_u32.Lts as lts
 use Rattle.little.proofs.put_u16.Reads as put-u16-reads
 
--- src/lib.rt:99:9
 put-u16-requires : tie.Need-put-u16-requires
 put-u16-requires c κs = search needs
 
--- src/lib.rt:100:22
 add-put-u16 : tie.Need-add-put-u16
 add-put-u16 c = search needs
 
--- src/lib.rt:100:9
 put-u16-requires-2 : tie.Need-put-u16-requires-2
 put-u16-requires-2 c κs = search needs
 
--- src/lib.rt:95:1
 same-length : tie.Need-same-length
 same-length c = search needs
 
--- src/lib.rt:95:1
 returns : tie.Need-returns
 returns c = laws.put-four (now (c .before .before .before .before .before .before .before .before .before .before .args .out)) (c .before .before .before .before .before .before .before .before .before .before .args .at) (c .before .before .before .before .before .before .before .before .before .before .args .value) (c .before .before .before .before .before .before .put-u16 .ensures) (c .before .before .put-u162 .ensures)
 
--- src/lib.rt:95:1
 returns-2 : tie.Need-returns-2
 returns-2 c = sym (laws.sets-out (now (c .before .before .args .out)) (c .before .before .args .at) (bytes 4 (c .before .before .args .value)) (c .if1 .left))
 

@@ -1,26 +1,26 @@
 use Prim.Native.Nat.{ℕ, _≤_, _-_}
-use mathlib.Core.Path.{_≡_, refl, sym, ap, _∙_}
+use mathlib.Core.Path.{_≡_, refl, ap, _∙_}
 use borrow.Author.Needs.{needs}
 use native.Mathlib.Omega.{arith}
 use denote.Ref.{now}
 use Rattle.log.proofs.LogLaws as laws
-use Rattle.log.specs.Log.{first, dueEarlier, scan}
+use Rattle.log.specs.Log.{edition1, dueEarlier, entriesAnswer}
 use Rattle.log.proofs.check_entries.Statement.{statement}
 use Rattle.log.proofs.check_entries.Tie as tie
 
 abbrev Inv-loop : tie.InvT-loop
 Inv-loop log count cycles before₀ i₀ before i =
-    (i ≤ count) × (before ≡ dueEarlier first log i) × (scan first log count cycles count 0 ≡ scan first log count cycles (count - i) i)
+    (i ≤ count) × (before ≡ dueEarlier edition1 log i) × (entriesAnswer edition1 log cycles count 0 ≡ entriesAnswer edition1 log cycles (count - i) i)
 
 abbrev μ-loop : tie.MeasureT-loop
 μ-loop log count cycles before₀ i₀ before i = count - i
 
 loop-holds : tie.Need-loop-holds Inv-loop μ-loop
 unfolding dueEarlier
-loop-holds c = (search needs, refl, ap (λ (k : ℕ). scan first (now (c .before .args .log)) (c .before .args .count) (c .before .args .cycles) k 0) (omega arith))
+loop-holds c = (search needs, refl, ap (λ (k : ℕ). entriesAnswer edition1 (now (c .before .args .log)) (c .before .args .cycles) k 0) (omega arith))
 
-place-requires : tie.Need-place-requires Inv-loop μ-loop
-place-requires c κs = search needs
+entry-place-requires : tie.Need-entry-place-requires Inv-loop μ-loop
+entry-place-requires c κs = search needs
 
 due-in-requires : tie.Need-due-in-requires Inv-loop μ-loop
 due-in-requires c κs = search needs
@@ -32,7 +32,7 @@ shared-slice-read-if1 : tie.Need-shared-slice-read-if1 Inv-loop μ-loop
 shared-slice-read-if1 c = search needs
 
 returns : tie.Need-returns Inv-loop μ-loop
-returns c = sym (((c .before .before .before .before .before .loop .inv) .2) ∙ laws.scan-fault (now (c .before .before .before .before .before .before .before .args .log)) (c .before .before .before .before .before .before .before .args .count) (c .before .before .before .before .before .before .before .args .cycles) (c .before .before .before .before .before .loop .i) (c .before .before .before .before .loop-test .taken) (laws.tested (now (c .before .before .before .before .before .before .before .args .log)) (c .before .before .before .before .before .before .before .args .count) (c .before .before .before .before .before .before .before .args .cycles) (c .before .before .before .before .before .loop .i) (c .before .before .before .place .ensures) refl (c .before .before .due-in .ensures) ((c .before .before .before .before .before .loop .inv) .1) (c .if1 .taken)))
+returns c = laws.by-refused _ _ (((c .before .before .before .before .before .loop .inv) .2) ∙ laws.entries-fault edition1 (now (c .before .before .before .before .before .before .before .args .log)) (c .before .before .before .before .before .before .before .args .count) (c .before .before .before .before .before .before .before .args .cycles) (c .before .before .before .before .before .loop .i) (c .before .before .before .before .loop-test .taken) (laws.tested edition1 (now (c .before .before .before .before .before .before .before .args .log)) (c .before .before .before .before .before .before .before .args .cycles) (c .before .before .before .before .before .loop .i) (c .before .before .before .entry-place .ensures) refl (c .before .before .due-in .ensures) ((c .before .before .before .before .before .loop .inv) .1) (c .if1 .taken)))
 
 add-i : tie.Need-add-i Inv-loop μ-loop
 add-i c = search needs
@@ -41,10 +41,10 @@ loop-less : tie.Need-loop-less Inv-loop μ-loop
 loop-less c = search needs
 
 loop-again : tie.Need-loop-again Inv-loop μ-loop
-loop-again c = (search needs, laws.earlier-next (now (c .before .before .before .before .before .before .before .args .log)) (c .before .before .before .before .before .loop .i) (c .before .before .before .place .ensures) (c .before .before .due-in .ensures), ((c .before .before .before .before .before .loop .inv) .2) ∙ laws.scan-on (now (c .before .before .before .before .before .before .before .args .log)) (c .before .before .before .before .before .before .before .args .count) (c .before .before .before .before .before .before .before .args .cycles) (c .before .before .before .before .before .loop .i) (c .before .before .before .before .loop-test .taken) (laws.tested (now (c .before .before .before .before .before .before .before .args .log)) (c .before .before .before .before .before .before .before .args .count) (c .before .before .before .before .before .before .before .args .cycles) (c .before .before .before .before .before .loop .i) (c .before .before .before .place .ensures) refl (c .before .before .due-in .ensures) ((c .before .before .before .before .before .loop .inv) .1) (c .if1 .left)))
+loop-again c = (search needs, laws.earlier-next edition1 (now (c .before .before .before .before .before .before .before .args .log)) (c .before .before .before .before .before .loop .i) (c .before .before .before .entry-place .ensures) (c .before .before .due-in .ensures), ((c .before .before .before .before .before .loop .inv) .2) ∙ laws.entries-on edition1 (now (c .before .before .before .before .before .before .before .args .log)) (c .before .before .before .before .before .before .before .args .count) (c .before .before .before .before .before .before .before .args .cycles) (c .before .before .before .before .before .loop .i) (c .before .before .before .before .loop-test .taken) (laws.tested edition1 (now (c .before .before .before .before .before .before .before .args .log)) (c .before .before .before .before .before .before .before .args .cycles) (c .before .before .before .before .before .loop .i) (c .before .before .before .entry-place .ensures) refl (c .before .before .due-in .ensures) ((c .before .before .before .before .before .loop .inv) .1) (c .if1 .left)))
 
 returns-2 : tie.Need-returns-2 Inv-loop μ-loop
-returns-2 c = sym (((c .before .loop .inv) .2) ∙ laws.scan-end (now (c .before .before .before .args .log)) (c .before .before .before .args .count) (c .before .before .before .args .cycles) (c .before .loop .i) (c .loop-test .left))
+returns-2 c = laws.by-accepted _ _ (((c .before .loop .inv) .2) ∙ laws.entries-end edition1 (now (c .before .before .before .args .log)) (c .before .before .before .args .count) (c .before .before .before .args .cycles) (c .before .loop .i) (c .loop-test .left))
 
 pub check-entries-spec : {M : Type 1} → statement M
 check-entries-spec =
@@ -53,7 +53,7 @@ check-entries-spec =
     Inv-loop
     μ-loop
     loop-holds
-    place-requires
+    entry-place-requires
     due-in-requires
     add-if1
     shared-slice-read-if1

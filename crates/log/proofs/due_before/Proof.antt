@@ -1,4 +1,5 @@
 use Rattle.log.proofs.LogLaws as laws
+use Rattle.log.specs.Log.{edition1}
 use denote.Ref.{now}
 use borrow.Author.Needs.{needs}
 use Rattle.log.proofs.due_before.Statement.{statement}
@@ -17,10 +18,10 @@ enum-known-c-2 : tie.Need-enum-known-c-2
 enum-known-c-2 c = search needs
 
 returns : tie.Need-returns
-returns c = laws.counted-numbered _ _ _ (laws.counted-in (now (c .before .before .before .before .before .before .args .log)) _ (c .before .before .before .before .check-log .ensures .0) ((c .before .before .c .given .1)) (c .count-due .ensures))
+returns c = laws.count-tells _ _ _ (laws.counted-in edition1 (now (c .before .before .before .before .before .before .args .log)) _ (c .before .before .before .before .check-log .ensures .0) ((c .before .before .c .given .1)) (c .count-due .ensures))
 
 returns-2 : tie.Need-returns-2
-returns-2 c = laws.counted-numbered _ _ _ (laws.counted-refused (now (c .before .before .before .before .before .args .log)) _ (c .before .before .before .check-log .ensures .0) ((c .before .c2 .given .1)))
+returns-2 c = laws.count-tells _ _ _ (laws.counted-refused edition1 (now (c .before .before .before .before .before .args .log)) _ (c .before .before .before .check-log .ensures .0) ((c .before .c2 .given .1)))
 
 pub due-before-spec : {M : Type 1} → statement M
 due-before-spec =

@@ -1,5 +1,5 @@
 use Rattle.log.proofs.LogLaws as laws
-use Rattle.log.specs.Log.{first}
+use Rattle.log.specs.Log.{edition1}
 use denote.Ref.{now}
 use borrow.Author.Needs.{needs}
 use Rattle.log.proofs.entry.Statement.{statement}
@@ -12,7 +12,7 @@ entry-in-requires : tie.Need-entry-in-requires
 entry-in-requires c κs = search needs
 
 returns : tie.Need-returns
-returns c = laws.read-of first (now (c .before .before .before .args .log)) _ (c .before .check-log .ensures .0) (c .entry-in .ensures .0)
+returns c = laws.entry-tells edition1 (now (c .before .before .before .args .log)) _ (c .before .check-log .ensures .0) (c .entry-in .ensures .0)
 
 pub entry-spec : {M : Type 1} → statement M
 entry-spec = tie.close (tie.spec check-log-requires entry-in-requires returns)

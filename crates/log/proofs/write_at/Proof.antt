@@ -4,8 +4,8 @@ use borrow.Author.Needs.{needs}
 use Rattle.log.proofs.write_at.Statement.{statement}
 use Rattle.log.proofs.write_at.Tie as tie
 
-place-requires : tie.Need-place-requires
-place-requires c κs = search needs
+entry-place-requires : tie.Need-entry-place-requires
+entry-place-requires c κs = search needs
 
 u32-at-requires : tie.Need-u32-at-requires
 u32-at-requires c κs = search needs
@@ -24,13 +24,13 @@ byte-at-requires c κs = search needs
 
 returns : tie.Need-returns
 unfolding writeAt dueAt
-returns c = rw ((c .byte-at .ensures), (c .before .u16-at .ensures), (c .before .before .u32-at .ensures), (c .before .before .before .place .ensures)) refl
+returns c = rw ((c .byte-at .ensures), (c .before .u16-at .ensures), (c .before .before .u32-at .ensures), (c .before .before .before .entry-place .ensures)) refl
 
 pub write-at-spec : {M : Type 1} → statement M
 write-at-spec =
     tie.close
     (tie.spec
-    place-requires
+    entry-place-requires
     u32-at-requires
     add-u16-at
     u16-at-requires

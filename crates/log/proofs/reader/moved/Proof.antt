@@ -1,4 +1,4 @@
--- A walk: a reader is made anew of the log and the answer that the one passed holds, and of the place that `after` answers. A reader is Copy:
+-- A walk: a reader is made anew of the log and the answer that the one passed holds, and of the place that `place_after` answers. A reader is Copy:
 -- one copy of what it owns is kept for the exit, and the log's part of the other is what the new reader owns.
 use mathlib.Core.Path.{_≡_, refl}
 use Prim.Native.Nat.{ℕ, _<_, _^_}
@@ -45,10 +45,10 @@ use Rattle.log.proofs.ReaderWalks.{B, D, L, answer, mach, alone, answer
 use Rattle.log.proofs.Checked as C
 use Rattle.log.proofs.Checked.Laws as C′
 use Rattle.log.proofs.reader.Reader.Laws as T′
-use Rattle.log.proofs.reader.after as callee
-use Rattle.log.proofs.reader.after.Symbol as callee-def
-use Rattle.log.proofs.reader.after.Symbol.{name as #log·after}
-use Rattle.log.proofs.reader.after.Met as callee-thm
+use Rattle.log.proofs.reader.place_after as callee
+use Rattle.log.proofs.reader.place_after.Symbol as callee-def
+use Rattle.log.proofs.reader.place_after.Symbol.{name as #log·place-after}
+use Rattle.log.proofs.reader.place_after.Met as callee-thm
 use Rattle.log.proofs.reader.moved.Key.{name as #log·moved}
 use Rattle.log.proofs.reader.moved as moved
 use Rattle.log.proofs.reader.moved.Statement as stated
@@ -112,7 +112,7 @@ module _ {M : Type 1} (𝓤 : URA M) (H : Heap 𝓤) (A : Atoms 𝓤) (W : Given
       use1 W (‵ (ownAt (D (κ, tt) .parts) (L (κ, tt)) 0 (d .log)) ⊛ ‵ (rest (D (κ, tt) .parts) (L (κ, tt)) 0 vd)) (own-out 𝓤 H A W (D (κ, tt) .parts) (L (κ, tt)) 0 vd) $ split ! $ move ! (1 ∷ []) $ drop ! $
       by ! (parts-own 𝓤 H A W κ (made n) (ps .0) (ps .1) fits))
 
-  module _ (C₀ : Calls 𝓤 H) (Λ : Loops 𝓤 H) (fm : FmC 𝓤 H (W .laws) C₀) (known : Triple 𝓤 (C₀ #log·after) (After 𝓤 H A mem run)) where
+  module _ (C₀ : Calls 𝓤 H) (Λ : Loops 𝓤 H) (fm : FmC 𝓤 H (W .laws) C₀) (known : Triple 𝓤 (C₀ #log·place-after) (After 𝓤 H A mem run)) where
     walk : Parts → Holds (hasTy (T′.mir (named 0)) (mach (κ, tt) d)) × WT (mach (κ, tt) d) → ent 𝓤 Entry (WpFn 𝓤 H C₀ Λ code.function (mach (κ, tt) d ∷ []) Post)
     walk ps wt =
         qed W (raw Entry ∷ []) ∵ enter ! C₀ Λ code.function (mach (κ, tt) d ∷ []) _ $
@@ -133,14 +133,14 @@ module _ {M : Type 1} (𝓤 : URA M) (H : Heap 𝓤) (A : Atoms 𝓤) (W : Given
         move ! (13 ∷ 14 ∷ []) $ free1 ! $ move ! (11 ∷ 12 ∷ []) $ free1 ! $ move ! (9 ∷ 10 ∷ []) $ free1 ! $ move ! (7 ∷ 8 ∷ []) $ free1 ! $ move ! (5 ∷ 6 ∷ []) $ free1 ! $ move ! (3 ∷ 4 ∷ []) $ free1 ! $ move ! (1 ∷ 2 ∷ []) $ free1 ! $ free0 ! $ by ! (exits n ps (is .1) e)))))))))))))
 
 module _ {M : Type 1} (𝓤 : URA M) (H : Heap 𝓤) (A : Atoms 𝓤) (W : Given 𝓤 H A) (mem : Memory → SProp 𝓤) (run : Routine → Fun 𝓤) where
-  moved-walks : (C₀ : Calls 𝓤 H) (Λ : Loops 𝓤 H) → FmC 𝓤 H (W .laws) C₀ → Triple 𝓤 (C₀ #log·after) (After 𝓤 H A mem run)
+  moved-walks : (C₀ : Calls 𝓤 H) (Λ : Loops 𝓤 H) → FmC 𝓤 H (W .laws) C₀ → Triple 𝓤 (C₀ #log·place-after) (After 𝓤 H A mem run)
       → Walks 𝓤 H A moved.ended stayed (WpFn 𝓤 H C₀ Λ code.function) (moved.clauses 𝓤 H A mem run)
   moved-walks C₀ Λ fm known = walked 𝓤 H A moved.ended stayed (moved.clauses 𝓤 H A mem run) (WpFn 𝓤 H C₀ Λ code.function) (λ κs. (LL.vals (D κs) (L κs), tt)) (λ κs. (LL.tells (D κs) (L κs), tt))
       (λ κs qs bounds a g are. let ps = LL.owed (D κs) (L κs) (a .0) _ (are .0) in
       via 𝓤 _ (fst∗ 𝓤 _ (emp 𝓤)) (walk 𝓤 H A W mem run (κs .0) (qs .0) (a .0) C₀ Λ fm known (ps .0, ps .1 .0, ps .1 .1 .0 .1) (LL.lawful (D κs) (L κs) 𝓤 H A W .typed (a .0) _ (are .0) .0)))
 
 moved-meets : {M : Type 1} (𝓤 : URA M) (H : Heap 𝓤) (A : Atoms 𝓤) (W : Given 𝓤 H A) (mem : Memory → SProp 𝓤) (run : Routine → Fun 𝓤) (𝓣 : Tables 𝓤 H)
-    → Triple 𝓤 (𝓣 .C #log·after) (After 𝓤 H A mem run)
+    → Triple 𝓤 (𝓣 .C #log·place-after) (After 𝓤 H A mem run)
     → Meets 𝓤 H A moved.signature (WpFn 𝓤 H (𝓣 .C) (𝓣 .Λ) code.function) (moved.spec 𝓤 H A mem run)
 moved-meets 𝓤 H A W mem run 𝓣 known = walk-meets 𝓤 H A moved.ended stayed W (goes-none 𝓤 H A W 1 B yes (λ κs x f. refl), tt) (moved.clauses 𝓤 H A mem run) (WpFn 𝓤 H (𝓣 .C) (𝓣 .Λ) code.function) (WpFn-mono 𝓤 H (W .laws) 𝓣 code.function)
     (moved-walks 𝓤 H A W mem run (𝓣 .C) (𝓣 .Λ) (fmOf 𝓤 H (W .laws) 𝓣) known)
@@ -151,4 +151,4 @@ moved-spec 𝓤 H 𝓜 𝓖 𝓡 =
     entered 𝓤 H (tripleOf 𝓤 H (𝓖 .A) moved.signature (moved.spec 𝓤 H (𝓖 .A) (𝓜 .mem) (𝓡 .run)))
     (tables 𝓤 H 𝓜 𝓡 code.env .C) (tables 𝓤 H 𝓜 𝓡 code.env .Λ) #log·moved code.function (code.unfolded 𝓤 H 𝓜 𝓡)
     (moved-meets 𝓤 H (𝓖 .A) (givenOf 𝓤 H 𝓜 𝓖) (𝓜 .mem) (𝓡 .run) (tablesOf 𝓤 H 𝓜 (tables 𝓤 H 𝓜 𝓡 code.env))
-    (cited 𝓤 H (After 𝓤 H (𝓖 .A) (𝓜 .mem) (𝓡 .run)) 𝓜 𝓡 code.env #log·after callee-def.routine code.calls-log·reader·after (callee-thm.met 𝓤 H 𝓜 𝓖 𝓡)))
+    (cited 𝓤 H (After 𝓤 H (𝓖 .A) (𝓜 .mem) (𝓡 .run)) 𝓜 𝓡 code.env #log·place-after callee-def.routine code.calls-log·reader·place-after (callee-thm.met 𝓤 H 𝓜 𝓖 𝓡)))

@@ -36,7 +36,8 @@ use denote.Triple.Table.{entered, cited}
 use denote.Triple.Walked.{says, Stays, stay-none-slice, walkOf, goes-none-slice, Walks, ends-at, walked, walk-meets}
 use denote.Exit.{yes}
 use denote.Triple.Clauses.{ensured, lasts}
-use Rattle.log.specs.Log.{first, checkOf, checkNumber, checkCarried, checkedNumber, checkedCarried}
+use Rattle.refusal.specs.Refusal.{Tells}
+use Rattle.log.specs.Log.{edition1, checkOf, checkedAnswer, logAnswer}
 use Rattle.log.specs.declared.Checked.{Checked}
 use Rattle.log.specs.declared.reader.Reader.{Reader}
 use Rattle.log.proofs.ReaderWalks.{answer, mach, alone, answer-typed, parts-typed, parts-own}
@@ -86,15 +87,15 @@ module _ {M : Type 1} (𝓤 : URA M) (H : Heap 𝓤) (A : Atoms 𝓤) (W : Given
       move ! (1 ∷ []) $ fsplit ! $ use1 W (‵ Own ⊛ ‵ Own) (shr-slice-copy 𝓤 H A W (named 0) κ u8 .twice s (v ∷ [])) $ split ! $
       move ! (0 ∷ 2 ∷ []) $ fjoin ! $ move ! (2 ∷ 0 ∷ []) $ use2 W (raw (CheckLog 𝓤 H A mem run .pre to)) (qed W ((‵ (flft κ q) ⊛ ‵ ftrue) ∷ ‵ (owns (ShrSlice (named 0) κ u8 ∷ []) (s, tt) (v ∷ [], tt)) ∷ []) ∵ join ! $ frame ! $ done !) $ frame ! $ done !
 
-  -- of the callee's three clauses, the first
-  abbrev others : Checked → SProp 𝓤
-  others c = sep 𝓤 (fact 𝓤 (checkedNumber c ≡ checkNumber first (now s))) (fact 𝓤 (checkedCarried c ≡ checkCarried first (now s)))
+  -- what the callee says of its result
+  abbrev Found : Checked → Type 0
+  Found c = (c ≡ checkOf edition1 (now s)) × Tells (checkedAnswer c) (logAnswer edition1 (now s))
 
-  said : (c : Checked) → ent 𝓤 (ensured 𝓤 H A callee.ended (callee.clauses 𝓤 H A mem run) (κ, tt) (s, tt) tt c) (fact 𝓤 (c ≡ checkOf first (now s)))
-  said c = exE 𝓤 _ (λ ws. via 𝓤 _ (snd∗ 𝓤 (sem 𝓤 H A (lasts callee.ended (κ, tt) (s, tt) ws)) (sep 𝓤 (fact 𝓤 (c ≡ checkOf first (now s))) (others c))) (fst∗ 𝓤 (fact 𝓤 (c ≡ checkOf first (now s))) (others c)))
+  said : (c : Checked) → ent 𝓤 (ensured 𝓤 H A callee.ended (callee.clauses 𝓤 H A mem run) (κ, tt) (s, tt) tt c) (fact 𝓤 (Found c))
+  said c = exE 𝓤 _ (λ ws. snd∗ 𝓤 (sem 𝓤 H A (lasts callee.ended (κ, tt) (s, tt) ws)) (fact 𝓤 (Found c)))
 
   module _ (p : Is (ShrSlice (named 0) κ u8) s (v ∷ [])) where
-    exits : (c : Checked) → Is C.the-row c (answer c ∷ []) → c ≡ checkOf first (now s) → ent 𝓤 (⋆ 𝓤 H A ((‵ (flft κ q) ⊛ ‵ ftrue) ∷ ‵ Own ∷ [])) (Post (mach (κ, tt) (made c)))
+    exits : (c : Checked) → Is C.the-row c (answer c ∷ []) → c ≡ checkOf edition1 (now s) → ent 𝓤 (⋆ 𝓤 H A ((‵ (flft κ q) ⊛ ‵ ftrue) ∷ ‵ Own ∷ [])) (Post (mach (κ, tt) (made c)))
     exits c is e =
         qed W ((‵ (flft κ q) ⊛ ‵ ftrue) ∷ ‵ Own ∷ []) ∵
         suffices ! _ (ends-at 𝓤 H A new.ended stayed (new.clauses 𝓤 H A mem run) W (((κ, tt), (q, tt), tt, (s, tt), (v ∷ [], tt)), tt) (mach (κ, tt) (made c)) (made c) (tt, tt) (tt, tt)) $ says ! (refl, e, refl) $
@@ -109,14 +110,14 @@ module _ {M : Type 1} (𝓤 : URA M) (H : Heap 𝓤) (A : Atoms 𝓤) (W : Given
           move ! (6 ∷ []) $ use1 W (raw (CheckLog 𝓤 H A mem run .pre to) ⊛ ‵ Own) goes $ split ! $
           calls-at ! fm (CheckLog 𝓤 H A mem run) known to (and-then ! (load ! (from ! (stop !)) (look ! 4 refl)) (no-more !)) (λ u.
           use1 W (later (some (λ (c : Checked). ((‵ (flft κ q) ⊛ ‵ ftrue) ⊛ ‵ (C.the-row .own c (u ∷ []))) ⊛ raw (ensured 𝓤 H A callee.ended (callee.clauses 𝓤 H A mem run) (κ, tt) (s, tt) tt c)))) (id⊢ 𝓤 _) $ await ! tt $ pick ! (λ c.
-          split ! $ move ! (1 ∷ []) $ use1 W (raw (fact 𝓤 (c ≡ checkOf first (now s)))) (said c) $ heard ! (c ≡ checkOf first (now s)) (λ e. split ! $ move ! (1 ∷ []) $
+          split ! $ move ! (1 ∷ []) $ use1 W (raw (fact 𝓤 (Found c))) (said c) $ heard ! (Found c) (λ e. split ! $ move ! (1 ∷ []) $
           peeks ! C.the-row (Is C.the-row) (shows 𝓤 H A C.the-row) c (u ∷ []) (λ is. drop ! $ rw (alone (EL.tells C.the-type C′.the-laws c _ is))
           -- [the token; what s owns; room for _2; …; _1; …; room for _0; …]
           (let ic = EL.owes C.the-type C′.the-laws c (EL.owed C.the-type C′.the-laws c _ is) in
           land ! (from ! (stop !)) (init ! 2 refl (answer-typed 𝓤 H A W c ic)) $
           assigns ! (agg ! (and-then ! (load ! (from ! (stop !)) (look ! 4 refl)) (and-then ! (load ! (from ! (stop !)) (look ! 2 refl)) (and-then ! (lit ! tt) (no-more !))))) (from ! (stop !)) (init ! 6 refl (parts-typed 𝓤 H A W κ (made c) p ic (lit< tt) (named 0))) $
           returns ! (look ! 6 refl) $ forget ! 2 refl $ forget ! 4 refl $ forget ! 6 refl $
-          move ! (6 ∷ 7 ∷ []) $ free1 ! $ move ! (4 ∷ 5 ∷ []) $ free1 ! $ move ! (2 ∷ 3 ∷ []) $ free1 ! $ free0 ! $ by ! (exits c ic e)))))))))
+          move ! (6 ∷ 7 ∷ []) $ free1 ! $ move ! (4 ∷ 5 ∷ []) $ free1 ! $ move ! (2 ∷ 3 ∷ []) $ free1 ! $ free0 ! $ by ! (exits c ic (e .0))))))))))
 
 module _ {M : Type 1} (𝓤 : URA M) (H : Heap 𝓤) (A : Atoms 𝓤) (W : Given 𝓤 H A) (mem : Memory → SProp 𝓤) (run : Routine → Fun 𝓤) where
   new-walks : (C₀ : Calls 𝓤 H) (Λ : Loops 𝓤 H) → FmC 𝓤 H (W .laws) C₀ → Triple 𝓤 (C₀ #log·check-log) (CheckLog 𝓤 H A mem run)

@@ -38,7 +38,8 @@ use denote.Triple.Table.{entered, cited}
 use denote.Triple.Walked.{says, Stays, stay-none, walkOf, goes-none, Walks, ends-at, walked, walk-meets}
 use denote.Exit.{yes}
 use denote.Triple.Clauses.{ensured, lasts}
-use Rattle.log.specs.Log.{first, entryIn, readNumber, readCarried, checkedNumber, checkedCarried}
+use Rattle.refusal.specs.Refusal.{Tells}
+use Rattle.log.specs.Log.{edition1, entryIn, entryAnswer, checkedAnswer}
 use Rattle.log.specs.declared.Read.{Read}
 use Rattle.log.specs.declared.reader.Reader.{Reader}
 use Rattle.log.proofs.ReaderLaws.{read-handed}
@@ -73,7 +74,7 @@ module _ {M : Type 1} (𝓤 : URA M) (H : Heap 𝓤) (A : Atoms 𝓤) (W : Given
 
   -- what the callee says of its result
   abbrev Found : Read → Type 0
-  Found r = (r ≡ entryIn first (d .checked) (now (d .log)) (d .at)) × (readNumber r ≡ checkedNumber (d .checked)) × (readCarried r ≡ checkedCarried (d .checked))
+  Found r = (r ≡ entryIn edition1 (d .checked) (now (d .log)) (d .at)) × Tells (entryAnswer r) (checkedAnswer (d .checked))
 
   abbrev Post : Val → SProp 𝓤
   Post = walkOf 𝓤 H A next.ended stayed (next.clauses 𝓤 H A mem run) .post (((κ, tt), (q, tt), tt, (d, tt), (w ∷ [], tt)), tt)
@@ -107,7 +108,7 @@ module _ {M : Type 1} (𝓤 : URA M) (H : Heap 𝓤) (A : Atoms 𝓤) (W : Given
   exits : (r : Read) (u : Val) → Found r → ent 𝓤 (⋆ 𝓤 H A (‵ (S.the-row .own r (u ∷ [])) ∷ (‵ (flft κ q) ⊛ ‵ ftrue) ∷ ‵ Own ∷ [])) (Post u)
   exits r u e =
       qed W (‵ (S.the-row .own r (u ∷ [])) ∷ (‵ (flft κ q) ⊛ ‵ ftrue) ∷ ‵ Own ∷ []) ∵
-      suffices ! _ (ends-at 𝓤 H A next.ended stayed (next.clauses 𝓤 H A mem run) W (((κ, tt), (q, tt), tt, (d, tt), (w ∷ [], tt)), tt) u r (tt, tt) (tt, tt)) $ says ! (e .0, read-handed first (now (d .log)) (d .at) (e .0), e .1, e .2) $
+      suffices ! _ (ends-at 𝓤 H A next.ended stayed (next.clauses 𝓤 H A mem run) W (((κ, tt), (q, tt), tt, (d, tt), (w ∷ [], tt)), tt) u r (tt, tt) (tt, tt)) $ says ! (e .0, read-handed edition1 (now (d .log)) (d .at) (e .0), e .1) $
       move ! (1 ∷ []) $ frame ! $ nothing ! $ move ! (2 ∷ 0 ∷ []) $ fjoin ! $ frame ! $ done !
 
   module _ (C₀ : Calls 𝓤 H) (Λ : Loops 𝓤 H) (fm : FmC 𝓤 H (W .laws) C₀) (known : Triple 𝓤 (C₀ #log·entry-in) (EntryIn 𝓤 H A mem run)) where

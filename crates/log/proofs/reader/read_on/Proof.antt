@@ -38,7 +38,8 @@ use denote.Triple.Table.{entered, cited}
 use denote.Triple.Walked.{says, Stays, stay-none, stay-none-slice, walkOf, goes-none, goes-none-slice, Walks, ends-at, walked, walk-meets}
 use denote.Exit.{yes}
 use denote.Triple.Clauses.{ensured, lasts}
-use Rattle.log.specs.Log.{first, checkOf, entryIn, handed, placeAfter, writesOf, readNumber, readCarried, checkedNumber, checkedCarried}
+use Rattle.refusal.specs.Refusal.{Tells}
+use Rattle.log.specs.Log.{edition1, checkOf, entryIn, handed, placeAfter, writesOf, entryAnswer, checkedAnswer}
 use Rattle.log.specs.declared.Checked.{Checked}
 use Rattle.log.specs.declared.Checked.the-variants as checked
 use Rattle.log.specs.declared.Read.{Read}
@@ -110,7 +111,7 @@ module _ {M : Type 1} (𝓤 : URA M) (H : Heap 𝓤) (A : Atoms 𝓤) (W : Given
   Own = ShrSlice (named 0) κ u8 .own s (v ∷ [])
 
   abbrev Found : Read → Type 0
-  Found t = (t ≡ entryIn first c (now s) n) × ((m k : ℕ) → checkOf first (now s) ≡ checked.Log m k → c ≡ checked.Log m k → t ≡ handed (writesOf first (now s)) n) × (readNumber t ≡ checkedNumber c) × (readCarried t ≡ checkedCarried c)
+  Found t = (t ≡ entryIn edition1 c (now s) n) × ((m k : ℕ) → checkOf edition1 (now s) ≡ checked.Log m k → c ≡ checked.Log m k → t ≡ handed (writesOf edition1 (now s)) n) × Tells (entryAnswer t) (checkedAnswer c)
 
   abbrev On : Reader → Type 0
   On r = (r .log ≡ s) × (r .checked ≡ c) × (r .at ≡ placeAfter c n)
@@ -140,7 +141,7 @@ module _ {M : Type 1} (𝓤 : URA M) (H : Heap 𝓤) (A : Atoms 𝓤) (W : Given
     exits t m is less e f =
         let st : Step = record { read = t; at = m } in
         qed W ((‵ (flft κ q) ⊛ ‵ ftrue) ∷ ‵ Own ∷ []) ∵
-        suffices ! _ (ends-at 𝓤 H A read-on.ended stayed (read-on.clauses 𝓤 H A mem run) W (((κ, tt), (q, tt), tt, (s, (c, (n, tt))), at), tt) (LL.val P.the-type P′.the-laws st) st (tt, (tt, (tt, tt))) (tt, (tt, (tt, tt)))) $ says ! (e .0, e .1, f, e .2, e .3) $
+        suffices ! _ (ends-at 𝓤 H A read-on.ended stayed (read-on.clauses 𝓤 H A mem run) W (((κ, tt), (q, tt), tt, (s, (c, (n, tt))), at), tt) (LL.val P.the-type P′.the-laws st) st (tt, (tt, (tt, tt))) (tt, (tt, (tt, tt)))) $ says ! (e .0, e .1, f, e .2) $
         frame ! $ nothing ! $ owned ! u32 (Is u32) (uint-makes 𝓤 H A W w32) n _ (refl, fits) $ fjoin ! $ owned ! C.the-row (Is C.the-row) (EL.makes C.the-type C′.the-plain 𝓤 H A) c _ pc $ fjoin ! $ move ! (1 ∷ 0 ∷ []) $ fjoin ! $ frame ! $
         owned ! P.the-row (Is P.the-row) (LL.makes P.the-type P′.the-plain 𝓤 H A) st _ (LL.owes P.the-type P′.the-laws st (is, ((refl, less), tt))) $ done !
 
