@@ -1,102 +1,105 @@
--- What `write_image` and `read_image` answer and leave, refusal by refusal.
-use Prim.Native.Nat.{ℕ, zero, suc, _+_, _<_, _≤_}
+-- What `write_image` and `read_image` answer and leave: one law for a refusal, one for the call accepted.
+use Prim.Native.Nat.{ℕ, _+_, _<_, _≤_}
 use mathlib.Core.Path.{_≡_, refl, sym, ap, _∙_}
-use mathlib.Core.Bool.{Bool, true, false, cond, _&&_}
-use mathlib.Core.List.{List, [], _∷_, _++_}
+use mathlib.Core.Bool.{true, false, not}
+use mathlib.Core.List.{List, [], _++_}
 use native.Mathlib.Omega.{arith}
-use borrow.Author.Tests.{eq-eqb, ne-eqb, le-leb, lt-leb}
-use lib.Dec.{eqb, leb, ltb}
-use lib.ListN.{drop, getD, length}
+use borrow.Author.Tests.{eq-eqb, ne-eqb, le-ltb, lt-ltb}
+use lib.Dec.{eqb, ltb}
+use lib.ListN.{drop, length}
 use lib.Seq.{sets, sets-eq}
-use Rattle.laws.proofs.Cases.{chosen}
-use Rattle.refusal.specs.Refusal.{answerCarried, answerNumber, carriedOf, numberOf}
+use Rattle.fields.specs.Fields.{fieldsOf, stateOf}
+use Rattle.refusal.proofs.RefusalLaws as order
+use Rattle.refusal.specs.Refusal.{Tells, fault}
 use Rattle.refusal.specs.declared.Answer.{Answer}
 use Rattle.refusal.specs.declared.Answer.the-variants.{Accepted, Refused}
 use Rattle.refusal.specs.declared.Refusal.{Refusal}
-use Rattle.refusal.specs.declared.Refusal.the-variants.{ImageField, ImageHeader, ImageSize, Room, State}
-use Rattle.vsu.specs.Core.{inRange}
+use Rattle.refusal.specs.declared.Refusal.the-variants.{ImageSize, Room, State}
+use Rattle.table.specs.Table.{newest}
+use Rattle.vsu.specs.Core.{inRange, unitAnswer}
 use Rattle.vsu.specs.declared.core.Vsu.{Vsu}
-use Rattle.image.specs.Fields.{Narrow, fieldsOf, stateOf}
-use Rattle.image.specs.Image.{bytesOf, fieldsIn, imageOf, loadedBy, readAnswer, readCarried, readNumber, readOf, readTold, refusalAt, scan, scanTold, writeAnswer, writeNumber, writeOut}
-use Rattle.image.specs.Table.{faulty, rowAt}
+use Rattle.image.specs.Image.{bytesOf, fieldsAnswer, fieldsIn, imageAnswer, imageOf, loadedBy, readAnswer, readOf, writtenBy, writtenOf}
 use Rattle.image.specs.declared.Loaded.{Loaded}
-use Rattle.image.specs.declared.table.Row.{Row}
-use Rattle.image.proofs.AcceptedLaws.{narrow}
-use Rattle.image.proofs.ImageLaws.{all-sound, values-length}
 use Rattle.image.proofs.RoundTrip.{image-420}
 
 -- writing
 
 module _ (u : Vsu) (out : List ℕ) where
   abbrev pub Wrote : Answer → List ℕ → Type 0
-  Wrote a after = (a ≡ writeAnswer u (length out)) × ((answerNumber a ≡ writeNumber u (length out)) × ((answerCarried a ≡ 0) × (after ≡ writeOut u out)))
+  Wrote a after = (a ≡ writtenOf u out .answer) × (after ≡ writtenOf u out .out) × Tells a (imageAnswer u (length out))
+
+  wrote-refused : {why : Refusal} → imageAnswer u (length out) ≡ Refused why → Wrote (Refused why) out
+  unfolding writtenBy
+  wrote-refused q = (rw q, rw q, order.tells (sym q))
+
+  state-refused : inRange u ≡ false → imageAnswer u (length out) ≡ Refused State
+  unfolding imageAnswer unitAnswer
+  state-refused h = order.ends (fault (ltb (length out) (newest .size)) Room) (order.at-fault {t = not (inRange u)} State (rw h))
+
+  room-refused : inRange u ≡ true → length out < newest .size → imageAnswer u (length out) ≡ Refused Room
+  unfolding imageAnswer unitAnswer
+  room-refused h l = order.on _ (order.sound {t = not (inRange u)} State (rw h)) ∙ order.at-fault Room (lt-ltb _ _ l)
 
   pub wrote-state : inRange u ≡ false → Wrote (Refused State) out
-  unfolding writeAnswer writeNumber writeOut
-  wrote-state h = (rw h, (rw h, (refl, rw h)))
+  wrote-state h = wrote-refused (state-refused h)
 
-  pub wrote-room : inRange u ≡ true → length out < 420 → Wrote (Refused Room) out
-  unfolding writeAnswer writeNumber writeOut
-  wrote-room h l = let t : leb 420 (length out) ≡ false = lt-leb 420 (length out) l in (rw (h, t), (rw (h, t), (refl, rw (h, t))))
+  pub wrote-room : inRange u ≡ true → length out < newest .size → Wrote (Refused Room) out
+  wrote-room h l = wrote-refused (room-refused h l)
 
-  laid : {f : List ℕ} → 420 ≤ length out → f ≡ fieldsOf u → sets out 0 (bytesOf rowAt f 325) ≡ imageOf u ++ drop 420 out
+  image-accepted : inRange u ≡ true → newest .size ≤ length out → imageAnswer u (length out) ≡ Accepted
+  unfolding imageAnswer unitAnswer
+  image-accepted h l = order.on _ (order.sound {t = not (inRange u)} State (rw h)) ∙ order.sound Room (le-ltb _ _ l)
+
+  laid : {f : List ℕ} → newest .size ≤ length out → f ≡ fieldsOf newest u → sets out 0 (bytesOf newest f (newest .fields)) ≡ imageOf newest u ++ drop (newest .size) out
   unfolding imageOf
   laid l q =
-      let n : length (imageOf u) ≡ 420 = image-420 u in
-      let z : 0 + length (imageOf u) ≡ 420 = omega (arith, n) in
-      rw q (sets-eq (imageOf u) out 0 (omega (arith, n, l)) ∙ ap (λ (k : ℕ). imageOf u ++ drop k out) z)
+      let n : length (imageOf newest u) ≡ newest .size = image-420 u in
+      let z : 0 + length (imageOf newest u) ≡ newest .size = omega (arith, n) in
+      rw q (sets-eq (imageOf newest u) out 0 (omega (arith, n, l)) ∙ ap (λ (k : ℕ). imageOf newest u ++ drop k out) z)
 
-  pub wrote : {f after : List ℕ} → inRange u ≡ true → 420 ≤ length out → f ≡ fieldsOf u → after ≡ sets out 0 (bytesOf rowAt f 325) → Wrote Accepted after
-  unfolding writeAnswer writeNumber writeOut
+  pub wrote : {f after : List ℕ} → inRange u ≡ true → newest .size ≤ length out → f ≡ fieldsOf newest u → after ≡ sets out 0 (bytesOf newest f (newest .fields)) → Wrote Accepted after
+  unfolding writtenBy
   wrote h l e p =
-      let t : leb 420 (length out) ≡ true = le-leb 420 (length out) l in (rw (h, t), (rw (h, t), (refl, rw (h, t) (p ∙ laid l e))))
+      let q : imageAnswer u (length out) ≡ Accepted = image-accepted h l in (rw q, rw q (p ∙ laid l e), order.tells (sym q))
 
--- reading: the numbers
+  -- for callers
+  pub written : inRange u ≡ true → newest .size ≤ length out → writtenOf u out ≡ record { answer = Accepted; out = imageOf newest u ++ drop (newest .size) out }
+  unfolding writtenBy
+  written h l = rw (image-accepted h l)
 
-module _ (g : Answer → ℕ) (told : ℕ → ℕ → ℕ) (fine : g Accepted ≡ 0) (refused : (why : Refusal) → g (Refused why) ≡ told (numberOf why) (carriedOf why)) where
-  field-told : (offset : ℕ) → g (Refused (refusalAt rowAt offset)) ≡ cond (ltb offset 16) (told 10 0) (told 11 offset)
-  field-told offset =
-      chosen (λ (r : Refusal). g (Refused r)) (ltb offset 16) (refused ImageHeader) (refused (ImageField offset))
-
-  scan-told : (f : List ℕ) (n i : ℕ) → g (scan rowAt f n i) ≡ scanTold rowAt told f n i
-  unfolding scan scanTold
-  scan-told f zero i = fine
-  scan-told f (suc n) i = chosen g (faulty (getD f 311 0) (rowAt i) (getD f i 0)) (field-told (rowAt i .offset)) (scan-told f n (suc i))
-
-  read-told : (b : List ℕ) → g (readAnswer b) ≡ readTold told b
-  unfolding readAnswer readTold
-  read-told b = chosen g (eqb (length b) 420) (scan-told (fieldsIn b) 325 0) (refused ImageSize)
+-- reading
 
 answer-of : (a : Answer) (f : List ℕ) → loadedBy a f .answer ≡ a
 unfolding loadedBy
 answer-of Accepted f = refl
 answer-of (Refused why) f = refl
 
+-- for callers
+pub read-answer : (b : List ℕ) → readOf b .answer ≡ readAnswer newest b
+read-answer b = answer-of (readAnswer newest b) (fieldsIn newest b)
+
 module _ (b : List ℕ) where
   abbrev pub Told : Loaded → Type 0
-  Told r = (r ≡ readOf b) × ((answerNumber (r .answer) ≡ readNumber b) × (answerCarried (r .answer) ≡ readCarried b))
+  Told r = (r ≡ readOf b) × Tells (r .answer) (readAnswer newest b)
 
-  pub numbered : {r : Loaded} → r ≡ readOf b → Told r
-  numbered e =
-      let a = ap (λ (r : Loaded). r .answer) e ∙ answer-of (readAnswer b) (fieldsIn b) in
-      (e, (ap answerNumber a ∙ read-told answerNumber (λ n v. n) refl (λ why. refl) b, ap answerCarried a ∙ read-told answerCarried (λ n v. v) refl (λ why. refl) b))
+  told : {r : Loaded} → r ≡ readOf b → Told r
+  told e = (e, order.tells (ap (λ (r : Loaded). r .answer) e ∙ read-answer b))
 
-  pub read-size : {r : Loaded} → (length b ≡ 420 → ⊥) → r ≡ loadedBy (Refused ImageSize) [] → Told r
+  pub read-size : {r : Loaded} → (length b ≡ newest .size → ⊥) → r ≡ loadedBy (Refused ImageSize) [] → Told r
   unfolding readAnswer loadedBy
-  read-size n e = numbered (e ∙ rw (ne-eqb (length b) 420 n))
+  read-size n e =
+      let q : readAnswer newest b ≡ Refused ImageSize = order.ends _ (order.at-fault {t = not (eqb (length b) (newest .size))} ImageSize (rw (ne-eqb _ _ n))) in
+      told (e ∙ rw q)
 
-  module _ {f : List ℕ} {a : Answer} (n : length b ≡ 420) (p : f ≡ fieldsIn b) (q : a ≡ scan rowAt f 325 0) where
-    answered : a ≡ readAnswer b
+  module _ {f : List ℕ} {a : Answer} (n : length b ≡ newest .size) (p : f ≡ fieldsIn newest b) (q : a ≡ fieldsAnswer newest f (newest .fields) 0) where
+    answered : a ≡ readAnswer newest b
     unfolding readAnswer
-    answered = q ∙ rw (p, eq-eqb (length b) 420 n)
+    answered = q ∙ rw p (sym (order.on _ (order.sound {t = not (eqb (length b) (newest .size))} ImageSize (rw (eq-eqb _ _ n)))))
 
     pub read-refused : {why : Refusal} {r : Loaded} → a ≡ Refused why → r ≡ loadedBy (Refused why) [] → Told r
     unfolding loadedBy
-    read-refused c e = numbered (e ∙ rw (← answered, c))
-
-    pub read-fits : a ≡ Accepted → Narrow f
-    read-fits c = rw p (narrow (fieldsIn b) (values-length rowAt b 325) (all-sound rowAt (fieldsIn b) 325 (rw p at (sym q ∙ c))))
+    read-refused c e = told (e ∙ rw (← answered, c))
 
     pub read-done : {u : Vsu} → a ≡ Accepted → u ≡ stateOf f → Told (record { state = u; answer = Accepted })
     unfolding loadedBy
-    read-done c e = numbered (rw (e, p, ← answered, c))
+    read-done c e = told (rw (e, p, ← answered, c))

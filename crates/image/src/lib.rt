@@ -1,19 +1,19 @@
 // The state image, 420 bytes: the fields' values, by the table.
-mod fields;
-mod table;
-
-use crate::table::FIELDS;
 use refusal::Answer;
 use refusal::Refusal;
+use table::FIELDS;
+use table::NEWEST;
+use table::SHIFT;
+use table::SIZE;
 use vsu::core;
 use vsu::core::Vsu;
 ghost use mathlib.Core.Path.{_≡_};
 ghost use mathlib.Core.List.{[]};
 ghost use lib.ListN.{length};
 ghost use lib.Seq.{sets};
-ghost use Rattle.refusal.specs.Refusal.{answerNumber, answerCarried};
-ghost use Rattle.image.specs.Table.{rowAt};
-ghost use Rattle.image.specs.Image.{bytesOf, fieldsIn, refusalAt, scan, writeAnswer, writeNumber, writeOut, loadedBy, readOf, readNumber, readCarried};
+ghost use Rattle.refusal.specs.Refusal.{Tells};
+ghost use Rattle.table.specs.Table.{newest};
+ghost use Rattle.image.specs.Image.{bytesOf, fieldsIn, refusalAt, fieldsAnswer, imageAnswer, writtenOf, readAnswer, loadedBy, readOf};
 
 // The state that an image holds, and how the reading ended.
 pub struct Loaded {
@@ -21,25 +21,25 @@ pub struct Loaded {
     pub answer: Answer,
 }
 
-fn put_fields(out: &mut [u8], f: &[u32; 325])
-    ensures { λ _. ⌜ now (out .exit) ≡ sets (now (out .entry)) 0 (bytesOf rowAt (now (f .entry)) 325) ⌝ }
+fn put_fields(out: &mut [u8], f: &[u32; FIELDS])
+    ensures { λ _. ⌜ now (out .exit) ≡ sets (now (out .entry)) 0 (bytesOf newest (now (f .entry)) (newest .fields)) ⌝ }
 {
     let mut i = 0;
     while i < FIELDS {
-        let r = table::row_at(i as u16);
+        let r = table::row_at(NEWEST, i as u16);
         let width = r.width;
         little::put(out, r.offset as usize, width, f[i]);
         i += 1;
     }
 }
 
-fn take_fields(b: &[u8]) -> [u32; 325]
-    ensures { λ r. ⌜ r ≡ fieldsIn (now (b .entry)) ⌝ }
+fn take_fields(b: &[u8]) -> [u32; FIELDS]
+    ensures { λ r. ⌜ r ≡ fieldsIn newest (now (b .entry)) ⌝ }
 {
-    let mut f = [0; 325];
+    let mut f = [0; FIELDS];
     let mut i = 0;
     while i < FIELDS {
-        let r = table::row_at(i as u16);
+        let r = table::row_at(NEWEST, i as u16);
         let width = r.width;
         f[i] = little::number_at(b, r.offset as usize, width);
         i += 1;
@@ -48,7 +48,7 @@ fn take_fields(b: &[u8]) -> [u32; 325]
 }
 
 fn refusal_at(offset: u32) -> Refusal
-    ensures { λ r. ⌜ r ≡ refusalAt rowAt offset ⌝ }
+    ensures { λ r. ⌜ r ≡ refusalAt offset ⌝ }
 {
     if offset < 16 {
         return Refusal::ImageHeader;
@@ -57,13 +57,13 @@ fn refusal_at(offset: u32) -> Refusal
 }
 
 // The lowest field at fault.
-fn check_fields(f: &[u32; 325]) -> Answer
-    ensures { λ r. ⌜ r ≡ scan rowAt (now (f .entry)) 325 0 ⌝ }
+fn check_fields(f: &[u32; FIELDS]) -> Answer
+    ensures { λ r. ⌜ r ≡ fieldsAnswer newest (now (f .entry)) (newest .fields) 0 ⌝ }
 {
     let mut i = 0;
     while i < FIELDS {
-        let r = table::row_at(i as u16);
-        if table::at_fault(r, f[311], f[i]) {
+        let r = table::row_at(NEWEST, i as u16);
+        if table::at_fault(r, f[SHIFT], f[i]) {
             return Answer::Refused(refusal_at(r.offset));
         }
         i += 1;
@@ -73,15 +73,12 @@ fn check_fields(f: &[u32; 325]) -> Answer
 
 // 1, then 2; else the image in the first 420 bytes.
 pub fn write_image(u: Vsu, out: &mut [u8]) -> Answer
-    ensures { λ r. ⌜ r ≡ writeAnswer u (length (now (out .entry))) ⌝ }
-    ensures { λ r. ⌜ answerNumber r ≡ writeNumber u (length (now (out .entry))) ⌝ }
-    ensures { λ r. ⌜ answerCarried r ≡ 0 ⌝ }
-    ensures { λ _. ⌜ now (out .exit) ≡ writeOut u (now (out .entry)) ⌝ }
+    ensures { λ r. ⌜ (r ≡ writtenOf u (now (out .entry)) .answer) × (now (out .exit) ≡ writtenOf u (now (out .entry)) .out) × Tells r (imageAnswer u (length (now (out .entry)))) ⌝ }
 {
     if !core::in_range(u) {
         return Answer::Refused(Refusal::State);
     }
-    if out.len() < 420 {
+    if out.len() < SIZE {
         return Answer::Refused(Refusal::Room);
     }
     let f = fields::fields_of(u);
@@ -89,7 +86,7 @@ pub fn write_image(u: Vsu, out: &mut [u8]) -> Answer
     Answer::Accepted
 }
 
-// "a refused image [hands back] the power-on state"
+// Handed back: "a refused image the power-on state".
 fn refused(why: Refusal) -> Loaded
     ensures { λ r. ⌜ r ≡ loadedBy (Answer.Refused why) [] ⌝ }
 {
@@ -102,11 +99,9 @@ fn refused(why: Refusal) -> Loaded
 
 // 9, then 10, then 11; else the state.
 pub fn read_image(b: &[u8]) -> Loaded
-    ensures { λ r. ⌜ r ≡ readOf (now (b .entry)) ⌝ }
-    ensures { λ r. ⌜ answerNumber (r .answer) ≡ readNumber (now (b .entry)) ⌝ }
-    ensures { λ r. ⌜ answerCarried (r .answer) ≡ readCarried (now (b .entry)) ⌝ }
+    ensures { λ r. ⌜ (r ≡ readOf (now (b .entry))) × Tells (r .answer) (readAnswer newest (now (b .entry))) ⌝ }
 {
-    if b.len() != 420 {
+    if b.len() != SIZE {
         return refused(Refusal::ImageSize);
     }
     let f = take_fields(b);
@@ -114,7 +109,7 @@ pub fn read_image(b: &[u8]) -> Loaded
     match a {
         Answer::Refused(why) => refused(why),
         Answer::Accepted => {
-            let u = fields::state_of(&f);
+            let u = fields::state_of(f);
             Loaded {
                 state: u,
                 answer: Answer::Accepted,

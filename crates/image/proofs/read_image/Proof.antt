@@ -26,13 +26,13 @@ enum-told : tie.Need-enum-told
 enum-told c = search needs
 
 state-of-requires : tie.Need-state-of-requires
-state-of-requires c κs = laws.read-fits (now (c .before .before .before .before .before .before .before .before .args .b)) (c .before .before .before .before .before .before .if1 .left) (c .before .before .before .before .before .take-fields .ensures) (c .before .before .before .check-fields .ensures) (c .before .enum-told .given .1)
+state-of-requires c κs = search needs
 
 returns-2 : tie.Need-returns-2
 returns-2 c = laws.read-refused (now (c .before .before .before .before .before .before .before .before .before .args .b)) (c .before .before .before .before .before .before .before .if1 .left) (c .before .before .before .before .before .before .take-fields .ensures) (c .before .before .before .before .check-fields .ensures) (c .before .before .a .given .1) (c .refused2 .ensures)
 
 returns-3 : tie.Need-returns-3
-returns-3 c = laws.read-done (now (c .before .before .before .before .before .before .before .before .before .args .b)) (c .before .before .before .before .before .before .before .if1 .left) (c .before .before .before .before .before .before .take-fields .ensures) (c .before .before .before .before .check-fields .ensures) (c .before .before .enum-told .given .1) (c .state-of .ensures)
+returns-3 c = laws.read-done (now (c .before .before .before .before .before .before .before .before .args .b)) (c .before .before .before .before .before .before .if1 .left) (c .before .before .before .before .before .take-fields .ensures) (c .before .before .before .check-fields .ensures) (c .before .enum-told .given .1) (c .state-of .ensures)
 
 pub read-image-spec : {M : Type 1} → statement M
 read-image-spec =

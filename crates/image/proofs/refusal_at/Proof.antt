@@ -1,9 +1,6 @@
 use borrow.Author.Tests.{lt-ltb, le-ltb}
-use borrow.Author.Needs.{needs}
 use Rattle.image.proofs.refusal_at.Statement.{statement}
 use Rattle.image.proofs.refusal_at.Tie as tie
-use Rattle.image.proofs.refusal_at.Reads as reads
-use Rattle.image.proofs.refusal_at.Lts as lts
 
 returns : tie.Need-returns
 returns c = rw (lt-ltb _ _ (c .if1 .taken))

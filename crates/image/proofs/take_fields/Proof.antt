@@ -2,21 +2,17 @@ use Prim.Native.Nat.{_≤_, _-_}
 use mathlib.Core.Path.{_≡_, refl, sym, _∙_}
 use native.Mathlib.Omega.{arith}
 use denote.Ref.{now}
-use lib.ListN.{replicate}
 use lib.Seq.{sets}
 use Rattle.image.specs.Image.{valuesOf}
-use Rattle.image.specs.Table.{rowAt}
+use Rattle.table.specs.Table.{newest}
+use Rattle.fields.proofs.FieldsLaws.{sets-all}
 use Rattle.image.proofs.ImageLaws as laws
 use borrow.Author.Needs.{needs}
 use Rattle.image.proofs.take_fields.Statement.{statement}
 use Rattle.image.proofs.take_fields.Tie as tie
-use Rattle.image.proofs.take_fields.Reads as reads
-use Rattle.image.proofs.take_fields.Lts as lts
-use Rattle.image.proofs.table.row_at.Reads as row-at-reads
-use Rattle.little.proofs.number_at.Reads as number-at-reads
 
 abbrev Inv-loop : tie.InvT-loop
-Inv-loop b f₀ i₀ f i = (i ≤ 325) × (f ≡ sets f₀ 0 (valuesOf rowAt b i))
+Inv-loop b f₀ i₀ f i = (i ≤ 325) × (f ≡ sets f₀ 0 (valuesOf newest b i))
 
 abbrev μ-loop : tie.MeasureT-loop
 μ-loop b f₀ i₀ f i = 325 - i
@@ -50,10 +46,10 @@ loop-less : tie.Need-loop-less Inv-loop μ-loop
 loop-less c = search needs
 
 loop-again : tie.Need-loop-again Inv-loop μ-loop
-loop-again c = (search needs, laws.take-step rowAt _ (now (c .before .before .before .before .before .before .args .b)) (c .before .before .before .before .loop .i) (c .before .before .row-at .ensures) (c .number-at .ensures) (c .before .before .before .before .loop .inv .1))
+loop-again c = (search needs, laws.take-step newest _ (now (c .before .before .before .before .before .before .args .b)) (c .before .before .before .before .loop .i) (c .before .before .row-at .ensures) (c .number-at .ensures) (c .before .before .before .before .loop .inv .1))
 
 returns : tie.Need-returns Inv-loop μ-loop
-returns c = let e : c .before .loop .i ≡ 325 = omega (arith, c .before .loop .inv .0, c .loop-test .left) in c .before .loop .inv .1 ∙ rw e (laws.sets-all _ (valuesOf rowAt (now (c .before .before .before .args .b)) 325) (sym (laws.values-length rowAt (now (c .before .before .before .args .b)) 325)))
+returns c = let e : c .before .loop .i ≡ 325 = omega (arith, c .before .loop .inv .0, c .loop-test .left) in c .before .loop .inv .1 ∙ rw e (sets-all _ (valuesOf newest (now (c .before .before .before .args .b)) 325) (sym (laws.values-length newest (now (c .before .before .before .args .b)) 325)))
 
 pub take-fields-spec : {M : Type 1} → statement M
 take-fields-spec =

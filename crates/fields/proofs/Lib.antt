@@ -1,0 +1,4 @@
+pub mod FieldsLaws
+pub mod BlockLaws
+pub mod AcceptedLaws
+pub mod WrittenLaws

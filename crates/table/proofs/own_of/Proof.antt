@@ -1,0 +1,74 @@
+use borrow.Author.Tests.{ne-eqb}
+use Rattle.table.specs.Table.{ownOf}
+use borrow.Author.Needs.{needs}
+use Rattle.table.proofs.own_of.Statement.{statement}
+use Rattle.table.proofs.own_of.Tie as tie
+
+enum-told : tie.Need-enum-told
+enum-told c = search needs
+
+enum-told-2 : tie.Need-enum-told-2
+enum-told-2 c = search needs
+
+enum-told-3 : tie.Need-enum-told-3
+enum-told-3 c = search needs
+
+enum-told-4 : tie.Need-enum-told-4
+enum-told-4 c = search needs
+
+enum-told-5 : tie.Need-enum-told-5
+enum-told-5 c = search needs
+
+enum-told-6 : tie.Need-enum-told-6
+enum-told-6 c = search needs
+
+returns : tie.Need-returns
+unfolding ownOf
+returns c = rw (c .enum-told .given .1)
+
+returns-2 : tie.Need-returns-2
+unfolding ownOf
+returns-2 c = rw (c .enum-told2 .given .1)
+
+returns-3 : tie.Need-returns-3
+unfolding ownOf
+returns-3 c = rw (c .enum-told3 .given .1)
+
+returns-4 : tie.Need-returns-4
+unfolding ownOf
+returns-4 c = rw (c .enum-told4 .given .1)
+
+returns-5 : tie.Need-returns-5
+unfolding ownOf
+returns-5 c = rw (c .before .enum-told5 .given .1, c .match2 .keys1)
+
+returns-6 : tie.Need-returns-6
+unfolding ownOf
+returns-6 c = rw (c .before .enum-told5 .given .1, c .match2 .keys2)
+
+returns-7 : tie.Need-returns-7
+unfolding ownOf
+returns-7 c = rw (c .before .enum-told5 .given .1, ne-eqb _ 9 (c .match2 .rest .0 .1), ne-eqb _ 10 (c .match2 .rest .1))
+
+returns-8 : tie.Need-returns-8
+unfolding ownOf
+returns-8 c = rw (c .enum-told6 .given .1)
+
+pub own-of-spec : {M : Type 1} → statement M
+own-of-spec =
+    tie.close
+    (tie.spec
+    enum-told
+    enum-told-2
+    enum-told-3
+    enum-told-4
+    enum-told-5
+    enum-told-6
+    returns
+    returns-2
+    returns-3
+    returns-4
+    returns-5
+    returns-6
+    returns-7
+    returns-8)
