@@ -1,5 +1,3 @@
-pub mod WalkLaws
-pub mod MarksLaws
-pub mod PlayerLaws
-pub mod Demand3
-pub mod ToldLaws
+mod PlayerLaws
+mod RowsLaws
+mod WalkLaws

@@ -1,396 +1,423 @@
--- Laws of specs/Player.antt, over plain variables: the calls refusal by refusal, each with the tests before it passed.
+-- The calls, over plain variables: what the rows come to, and what a call then hands back.
 use Prim.Native.Nat.{ℕ, _+_, _-_, _*_, _/_, _<_, _≤_}
 use mathlib.Core.Path.{_≡_, refl, sym, ap, _∙_}
-use mathlib.Core.Bool.{Bool, true, false, cond, not, _&&_, _||_, true≢false}
-use mathlib.Core.List.{List, [], _∷_, _++_, append-nil, append-assoc}
+use mathlib.Core.Bool.{Bool, true, false, cond, not}
+use mathlib.Core.List.{List, [], _++_, append-nil, append-assoc}
 use native.Mathlib.Omega.{arith}
-use borrow.Author.Tests.{eq-eqb, eqb-true, le-leb, leb-true, le-ltb, lt-leb, ltb-true, ltb-false}
+use borrow.Author.Tests.{le-leb, leb-true, le-ltb, lt-leb, lt-ltb, ltb-false, not-false}
 use borrow.Rule.Slice.PartMut.{midOf, putMid}
-use lib.Dec.{eqb, leb, ltb}
+use lib.Dec.{leb, ltb}
 use lib.IntN.{ℤ}
-use lib.ListN.{drop, length, length-drop, take, drop-of-length-le}
-use lib.Seq.{drop-drop, length-sets, sets, sets-eq, take-all}
-use Rattle.laws.proofs.Cases.{each}
-use Rattle.little.proofs.LittleLaws.{bytes-length, sets-append}
+use lib.ListN.{drop, getD, length, length-drop, take, drop-of-length-le}
+use lib.Seq.{drop-drop, getD-drop, length-sets, sets, sets-eq, take-all}
+use Rattle.deck.proofs.PlayerLaws as deck
+use Rattle.deck.proofs.UnbrokenLaws.{due-none}
+use Rattle.deck.specs.Player.{appliedPlace, clearAnswer, clearOf, fresh, goToAnswer, goToOf, imagePlace, inSlot, lengthIn, memorySize, misplaced, movedOn, openOf, playAnswer, playBy, playOf, restarted, seekAnswer, setAnswer, setBy, setOf, slotApplied, slotCycle, slotImage, slotOf, slotPlace, slotSize, soughtFrom, standingAnswer, standingOf, turnBy, withMarks, writesIn}
+use Rattle.deck.specs.Unbroken.{framesOn, runOn}
+use Rattle.deck.specs.declared.Played.{Played}
+use Rattle.deck.specs.declared.Player.{Player}
+use Rattle.deck.specs.declared.Turn.{Turn}
+use Rattle.little.proofs.LittleLaws.{bytes-length, front-below, sets-append}
 use Rattle.little.specs.Little.{bytes, number}
-use Rattle.log.specs.Log.{checkOf, dueBefore, first, writesFrom}
+use Rattle.log.proofs.AcceptedLaws.{checked-log}
+use Rattle.log.specs.Log.{checkOf, checkedAnswer, countOf, dueBefore, edition1, logAnswer, writesFrom}
 use Rattle.log.specs.declared.Checked.{Checked}
 use Rattle.log.specs.declared.Checked.the-variants as checked
-use Rattle.log.specs.declared.Write.{Write}
 use Rattle.image.proofs.RoundTrip.{image-420}
-use Rattle.image.specs.Image.{imageOf, readOf, writeOut}
+use Rattle.image.specs.Image.{imageOf, readAnswer, readOf, writtenOf}
+use Rattle.image.proofs.CallLaws.{read-answer, written}
+use Rattle.table.specs.Table.{newest}
 use Rattle.image.specs.declared.Loaded.{Loaded}
+use Rattle.marks.specs.Marks.{isSet, withMark, withoutMark}
+use Rattle.refusal.proofs.RefusalLaws as order
+use Rattle.refusal.specs.Refusal.{Tells, fault, _then_}
+use Rattle.refusal.specs.declared.Answer.{Answer}
 use Rattle.refusal.specs.declared.Answer.the-variants.{Accepted, Refused}
 use Rattle.refusal.specs.declared.Refusal.{Refusal}
-use Rattle.refusal.specs.declared.Refusal.the-variants.{State, Room, BeyondEnd, Place, MarkNumber, MarkUnset, MarksFull}
-use Rattle.vsu.proofs.RangeLaws.{power-on-in-range}
-use Rattle.vsu.specs.Core.{framesDue, inRange, sides}
+use Rattle.refusal.specs.declared.Refusal.the-variants.{State, Room, BeyondEnd, Place, MarkNumber, MarkUnset}
+use Rattle.vsu.proofs.RangeLaws.{power-on-in-range, range-facts}
+use Rattle.vsu.specs.Core.{framesDue, inRange, sides, unitAnswer}
 use Rattle.vsu.specs.declared.core.Vsu.{Vsu}
-use Rattle.player.specs.Marks.{isSet, lowestFree, withoutMark}
-use Rattle.player.specs.Walk.{Walkable, framesOn, runOn}
-use Rattle.player.specs.Player.{clearOf, dueIn, fresh, goToBy, goToOf, marked, movedOn, openBy, openOf, place, placed, playBy, playOf, playOut, playOutBy, playedOn, playedOut, recalled, refusedPlay, refusedTurn, seekBy, seekOf, setBy, setFreeBy, setFreeMemory, setFreeOf, setMemory, setMemoryBy, setOf, slotOf, standingBy, standingOf, turned, wentBy, withMarks}
-use Rattle.player.specs.declared.Played.{Played}
-use Rattle.player.specs.declared.Player.{Player}
-use Rattle.player.specs.declared.Turn.{Turn}
+use Rattle.player.specs.Rows.{answeredBy, isAccepted, isMisplaced, isPast, rowBy}
+use Rattle.player.specs.Walk.{Recallable, Walkable, placedAt, startFor}
+use Rattle.player.proofs.RowsLaws.{Gone, begun, gone-answer, gone-answered, gone-misplaced, gone-on, gone-past, gone-row, stopped-at, then-then, turned-round}
+
+-- what a call hands back, by its answer
+
+module _ (p q : Player) where
+  pub turn-on : {a : Answer} {t : Bool} {r : Turn} → t ≡ isAccepted a → t ≡ true → r ≡ record { player = q; answer = a } → r ≡ turnBy a p q
+  unfolding turnBy
+  turn-on {a} e h f = f ∙ go a (sym h ∙ e)
+    where
+      go : (a : Answer) → true ≡ isAccepted a → record { player = q; answer = a } ≡ turnBy a p q
+      go Accepted k = refl
+      go (Refused why) k = let z : _≡_ {A = ℕ} 0 1 = cc in absurd (omega arith)
+
+  pub turn-still : {a : Answer} {t : Bool} {r : Turn} → t ≡ isAccepted a → t ≡ false → r ≡ record { player = p; answer = a } → r ≡ turnBy a p q
+  unfolding turnBy
+  turn-still {a} e h f = f ∙ go a (sym h ∙ e)
+    where
+      go : (a : Answer) → false ≡ isAccepted a → record { player = p; answer = a } ≡ turnBy a p q
+      go Accepted k = let z : _≡_ {A = ℕ} 0 1 = cc in absurd (omega arith)
+      go (Refused why) k = refl
+
+module _ (a : Answer) (p q : Player) where
+  abbrev Turns : Turn → Type 0
+  Turns r = (r ≡ turnBy a p q) × Tells (r .answer) a
+
+  pub tells-too : {r : Turn} → r ≡ turnBy a p q → Turns r
+  unfolding turnBy
+  tells-too e = (e, order.tells (ap (λ (t : Turn). t .answer) e ∙ go a))
+    where
+      go : (a : Answer) → turnBy a p q .answer ≡ a
+      go Accepted = refl
+      go (Refused why) = refl
+
+  pub turned : {o : Player} {r : Turn} → a ≡ Accepted → o ≡ q → r ≡ record { player = o; answer = Accepted } → Turns r
+  unfolding turnBy
+  turned h d e = tells-too (rw (h, ← d) e)
+
+  pub refused : {why : Refusal} {x : Answer} {r : Turn} → a ≡ Refused why → x ≡ a → r ≡ record { player = p; answer = x } → Turns r
+  unfolding turnBy
+  refused h d e = tells-too (rw h (e ∙ rw (d, h)))
 
 -- opening
+pub opened : {c : Checked} (b : List ℕ) → c ≡ checkOf edition1 b → {p : Player} → p ≡ fresh → {a : Answer} → a ≡ checkedAnswer c → {r : Turn} → r ≡ turnBy a p p → (r ≡ openOf b) × Tells (r .answer) (logAnswer edition1 b)
+opened b e f g h = tells-too (logAnswer edition1 b) fresh fresh (h ∙ rw (f, gone-answer b (logAnswer edition1 b) (begun b e) g))
 
-module _ {c : Checked} (b : List ℕ) (e : c ≡ checkOf first b) {p : Player} (f : p ≡ fresh) {r : Turn} where
-  pub opened : {count cycles : ℕ} → c ≡ checked.Log count cycles → r ≡ turned p → r ≡ openOf b
-  unfolding openBy
-  opened l g = g ∙ rw (← e, l, f)
+-- the record and the log checked: "log 3 to 8, record 1 then 13"
+pub standing : (p : Player) (b : List ℕ) {c d e : Checked} {u : Vsu} {h t : Bool} → c ≡ checkOf edition1 b → u ≡ p .unit → h ≡ inRange u → d ≡ rowBy c (not h) State →
+    t ≡ isMisplaced d b (p .cycle) (p .applied) → e ≡ rowBy d t Place → e ≡ standingOf p b
+unfolding standingAnswer unitAnswer
+standing p b {c} {d} {e} {u} {h} {t} x y z i m j =
+    let l : Answer = logAnswer edition1 b in
+    let r : Answer = fault (not (inRange (p .unit))) State in
+    let k : h ≡ inRange (p .unit) = z ∙ ap inRange y in
+    let g : Gone b d (l then r) = gone-row b l (begun b x) (not (inRange (p .unit))) State (rw (← k) i) in
+    gone-misplaced b (l then r) g (λ a. order.both-on l r a .0) (p .cycle) (p .applied) Place m j
+    ∙ rw (then-then l r (fault (misplaced b (p .cycle) (p .applied)) Place))
 
-  pub open-refused : {why : Refusal} → c ≡ checked.Refused why → r ≡ refusedTurn p why → r ≡ openOf b
-  unfolding openBy
-  open-refused {why} l g = g ∙ rw (← e, l, f)
+-- A record that stands in the log, of whose check c and the count of c are in hand.
 
--- a place in the log: what the code tests
+module _ (p : Player) (b : List ℕ) (a : standingAnswer p b ≡ Accepted) {count : ℕ} (k : count ≡ countOf b) where
+  stands : deck.Stands p b
+  stands = deck.stands p b a
 
-place-test : (c k : ℕ) (t : Bool) {v : Bool} → (ltb k c || not t) ≡ v → (leb c k && t) ≡ not v
-place-test c k t e = go (ltb k c) refl t e
-  where
-    go : (s : Bool) → ltb k c ≡ s → (t : Bool) {v : Bool} → (s || not t) ≡ v → (leb c k && t) ≡ not v
-    go true l t e = rw (← e, lt-leb c k (ltb-true k c l))
-    go false l true e = rw (← e, le-leb c k (ltb-false k c l))
-    go false l false e = rw (← e, le-leb c k (ltb-false k c l))
+  checked-as : checkOf edition1 b ≡ checked.Log count (lengthIn b)
+  unfolding checkOf
+  checked-as = rw (stands .log, ← k)
 
-module _ (b : List ℕ) (count cycles : ℕ) (l : checkOf first b ≡ checked.Log count cycles) (cycle applied : ℕ) {t : Bool}
-    (s : (k : ℕ) → checkOf first b ≡ checked.Log count k → t ≡ eqb applied (dueBefore (writesFrom first b count 0) cycle)) where
-  pub placed-by : {v : Bool} → (ltb cycles cycle || not t) ≡ v → placed b count cycles cycle applied ≡ not v
-  placed-by e = rw (s cycles l) at (place-test cycle cycles t e)
+  pub walk-on : {u : Vsu} {target : ℕ} → u ≡ p .unit → p .cycle ≤ target → Walkable b count u (p .cycle) (p .applied) target
+  walk-on e h =
+      rw e
+      (record {
+        cycles = lengthIn b;
+        accepted = checked-as;
+        ranged = stands .ranged;
+        stands = rw k (stands .due);
+        ahead = h;
+      })
 
--- the record and the log checked
+  -- from where a seek begins
+  pub walk-from : (target : ℕ) {q : Player} → q ≡ startFor p target → Walkable b count (q .unit) (q .cycle) (q .applied) target
+  unfolding startFor
+  walk-from target {q} e = rw e (go (leb (p .cycle) target) refl)
+    where
+      Start : Player → Type 0
+      Start q = Walkable b count (q .unit) (q .cycle) (q .applied) target
 
-module _ {c : Checked} (p : Player) (b : List ℕ) (e : c ≡ checkOf first b) where
-  pub standing-log : {why : Refusal} → c ≡ checked.Refused why → checked.Refused why ≡ standingOf p b
-  unfolding standingBy
-  standing-log l = rw (← e, l)
+      go : (t : Bool) → leb (p .cycle) target ≡ t → Start (cond t p (restarted p))
+      go true h = walk-on refl (leb-true (p .cycle) target h)
+      go false h =
+          record {
+            cycles = lengthIn b;
+            accepted = checked-as;
+            ranged = power-on-in-range;
+            stands = sym (due-none (writesFrom edition1 b count 0));
+            ahead = omega arith;
+          }
 
-  module _ {count cycles : ℕ} (l : c ≡ checked.Log count cycles) {h : Bool} (i : h ≡ inRange (p .unit)) where
-    pub standing-state : h ≡ false → checked.Refused State ≡ standingOf p b
-    unfolding standingBy
-    standing-state g = rw (← e, l, ← i, g)
+-- the record n cycles on, as a walk leaves it
 
-    module _ (g : h ≡ true) {t : Bool}
-        (s : (k : ℕ) → checkOf first b ≡ checked.Log count k → t ≡ eqb (p .applied) (dueBefore (writesFrom first b count 0) (p .cycle))) where
-      pub standing-place : (ltb cycles (p .cycle) || not t) ≡ true → checked.Refused Place ≡ standingOf p b
-      unfolding standingBy
-      standing-place v = rw (← e, l, ← i, g, placed-by b count cycles (sym e ∙ l) (p .cycle) (p .applied) s v)
+moved-to : (b : List ℕ) (p : Player) {u : Vsu} {count applied : ℕ} → count ≡ countOf b → (n target : ℕ) → p .cycle + n ≡ target → u ≡ runOn (writesFrom edition1 b count 0) (p .cycle) (p .unit) n →
+    applied ≡ dueBefore (writesFrom edition1 b count 0) target → placedAt p u target applied ≡ movedOn (writesIn b) p n
+unfolding movedOn
+moved-to b p k n target e d f = rw (d, f, e, k)
 
-      pub standing-here : (ltb cycles (p .cycle) || not t) ≡ false → checked.Log count cycles ≡ standingOf p b
-      unfolding standingBy
-      standing-here v = rw (← e, l, ← i, g, placed-by b count cycles (sym e ∙ l) (p .cycle) (p .applied) s v)
+pub moved : (b : List ℕ) (p : Player) {u v : Vsu} {count applied target : ℕ} {q : Player} → Walkable b count (p .unit) (p .cycle) (p .applied) target → u ≡ p .unit →
+    v ≡ runOn (writesFrom edition1 b count 0) (p .cycle) u (target - p .cycle) → applied ≡ dueBefore (writesFrom edition1 b count 0) target → q ≡ placedAt p v target applied →
+    q ≡ movedOn (writesIn b) p (target - p .cycle)
+moved b p {target = target} w e x y z =
+    z ∙ moved-to b p (checked-log edition1 b (w .accepted) .1) (target - p .cycle) target (omega (arith, w .ahead)) (rw e at x) y
 
--- what an answer of that check tells
+-- a log's L is a number of 32 bits
+pub length-below : (b : List ℕ) → ((i : ℕ) → getD b i 0 < 256) → lengthIn b < 4294967296
+length-below b h = front-below 4 (drop 12 b) (λ i. rw (getD-drop 12 b i 0) (h (12 + i)))
 
-abbrev countOf : Checked → ℕ
-countOf (checked.Log count cycles) = count
-countOf (checked.Refused why) = 0
+-- a play
 
-abbrev cyclesOf : Checked → ℕ
-cyclesOf (checked.Log count cycles) = cycles
-cyclesOf (checked.Refused why) = 0
+module _ (p : Player) (n : ℕ) (b : List ℕ) (out : List ℤ) where
+  abbrev Plays : Played → List ℤ → Type 0
+  Plays r after = (r ≡ playOf p n b out .played) × (after ≡ playOf p n b out .out) × Tells (r .answer) (playAnswer p n b (length out))
 
-abbrev isLog : Checked → Bool
-isLog (checked.Log count cycles) = true
-isLog (checked.Refused why) = false
+  pub play-rows : {c d e : Checked} {u : Vsu} {due target : ℕ} {t : Bool} → c ≡ standingOf p b → target ≡ p .cycle + n → t ≡ isPast c target → d ≡ rowBy c t BeyondEnd →
+      u ≡ p .unit → due ≡ framesDue u n → e ≡ rowBy d (ltb (length out / 2) due) Room → Gone b e (playAnswer p n b (length out))
+  unfolding playAnswer
+  play-rows {due = due} s t i j x y k =
+      let a : Answer = standingAnswer p b in
+      let f : Answer = fault (ltb (lengthIn b) (p .cycle + n)) BeyondEnd in
+      let g : Gone b _ (a then f) = gone-past b a s (p .cycle + n) BeyondEnd (rw t at i) j in
+      let z : ltb (length out / 2) due ≡ not (leb (framesDue (p .unit) n) (length out / 2)) = rw (y, x) (turned-round (length out / 2) (framesDue (p .unit) n)) in
+      gone-row b (a then f) g (not (leb (framesDue (p .unit) n) (length out / 2))) Room (rw (← z) k)
+      ∙ rw (then-then a f (fault (not (leb (framesDue (p .unit) n) (length out / 2))) Room))
 
-pub record Stands (p : Player) (b : List ℕ) (count cycles : ℕ) : Type 0 where
-  pub accepted : checkOf first b ≡ checked.Log count cycles
-  pub ranged : inRange (p .unit) ≡ true
-  pub within : p .cycle ≤ cycles
-  pub due : p .applied ≡ dueBefore (writesFrom first b count 0) (p .cycle)
+  pub play-stops : {e : Checked} → Gone b e (playAnswer p n b (length out)) → {t : Bool} → t ≡ not (isAccepted (checkedAnswer e)) → t ≡ true →
+      {a : Answer} → a ≡ checkedAnswer e → {r : Played} → r ≡ record { player = p; frames = 0; answer = a } → Plays r out
+  unfolding playBy
+  play-stops g i h e f =
+      stopped-at b (playAnswer p n b (length out)) g i h
+      (λ why k.
+      let x = gone-answer b (playAnswer p n b (length out)) g e in
+      (rw k (f ∙ rw (x, k)), rw k, order.tells (ap (λ (r : Played). r .answer) f ∙ x)))
 
-module _ (p : Player) (b : List ℕ) (count cycles : ℕ) where
-  no-refusal : {why : Refusal} {A : Type 0} → checked.Refused why ≡ checked.Log count cycles → A
-  no-refusal e = absurd (true≢false (sym (ap isLog e)))
+  pub play-goes : {e : Checked} → Gone b e (playAnswer p n b (length out)) → {t : Bool} → t ≡ not (isAccepted (checkedAnswer e)) → t ≡ false → playAnswer p n b (length out) ≡ Accepted
+  play-goes g = gone-on b (playAnswer p n b (length out)) g
 
-  held : (n m : ℕ) (h g : Bool) → cond h (cond g (checked.Log n m) (checked.Refused Place)) (checked.Refused State) ≡ checked.Log count cycles →
-      (h ≡ true) × ((g ≡ true) × (checked.Log n m ≡ checked.Log count cycles))
-  held n m true true e = (refl, (refl, e))
-  held n m true false e = no-refusal e
-  held n m false g e = no-refusal e
+  module _ (a : playAnswer p n b (length out) ≡ Accepted) where
+    pub play-stands : standingAnswer p b ≡ Accepted
+    unfolding playAnswer
+    play-stands = order.both-on (standingAnswer p b) _ a .0
 
-  parts : placed b count cycles (p .cycle) (p .applied) ≡ true → (p .cycle ≤ cycles) × (p .applied ≡ dueBefore (writesFrom first b count 0) (p .cycle))
-  parts h =
-      each (leb (p .cycle) cycles) (eqb (p .applied) (dueIn b count (p .cycle)) ∷ []) h
-      (λ k. (leb-true (p .cycle) cycles (k .0), eqb-true (p .applied) (dueIn b count (p .cycle)) (k .1 .0)))
+    pub play-within : p .cycle + n ≤ lengthIn b
+    play-within = deck.play-passed p b n (length out) a
 
-  told : (k : Checked) → standingBy k p b ≡ checked.Log count cycles →
-      (k ≡ checked.Log count cycles) × ((inRange (p .unit) ≡ true) × (placed b count cycles (p .cycle) (p .applied) ≡ true))
-  unfolding standingBy
-  told (checked.Log n m) e =
-      let h = held n m (inRange (p .unit)) (placed b n m (p .cycle) (p .applied)) e in
-      (h .1 .1, (h .0, rw (ap countOf (h .1 .1), ap cyclesOf (h .1 .1)) at (h .1 .0)))
-  told (checked.Refused why) e = no-refusal e
+    pub play-room : {u : Vsu} {to : ℕ} → u ≡ p .unit → to ≡ p .cycle + n → framesDue u (to - p .cycle) * 2 ≤ length out
+    play-room {to = to} e t =
+        let same : to - p .cycle ≡ n = omega (arith, t) in
+        let h = deck.play-fits p b n (length out) a in
+        rw (e, same) (omega (arith, h))
 
-  pub stands-by : {c : Checked} → c ≡ standingOf p b → c ≡ checked.Log count cycles → Stands p b count cycles
-  stands-by e l =
-      let t = told (checkOf first b) (sym e ∙ l) in
-      let k = parts (t .1 .1) in
-      record { accepted = t .0; ranged = t .1 .0; within = k .0; due = k .1 }
+    pub play-due : {u : Vsu} {due : ℕ} → u ≡ p .unit → due ≡ framesDue u n → due ≤ (479 + n) / 480
+    play-due e d = let h = range-facts (p .unit) (deck.stands p b play-stands .ranged) .output in rw (d, e) (omega (arith, h))
 
--- and the other way
-pub stands-log : {p : Player} {b : List ℕ} {count cycles : ℕ} → Stands p b count cycles → standingOf p b ≡ checked.Log count cycles
-unfolding standingBy
-stands-log {p} {b} {count} {cycles} t =
-    rw (t .accepted, t .ranged, le-leb (p .cycle) cycles (t .within), eq-eqb (p .applied) (dueIn b count (p .cycle)) (t .due))
+    pub play-made : {count due to applied : ℕ} {u v : Vsu} {after : List ℤ} {q : Player} {r : Played} → count ≡ countOf b → to ≡ p .cycle + n → u ≡ p .unit → due ≡ framesDue u n →
+        v ≡ runOn (writesFrom edition1 b count 0) (p .cycle) u (to - p .cycle) → applied ≡ dueBefore (writesFrom edition1 b count 0) to →
+        after ≡ sides (framesOn (writesFrom edition1 b count 0) (p .cycle) u (to - p .cycle)) ++ drop (framesDue u (to - p .cycle) * 2) out →
+        q ≡ placedAt p v to applied → r ≡ record { player = q; frames = due; answer = Accepted } → Plays r after
+    unfolding playBy
+    play-made {to = to} k t e d x y z i f =
+        let same : to - p .cycle ≡ n = omega (arith, t) in
+        let m = i ∙ moved-to b p k n to (sym t) (rw (same, e) at x) y in
+        (rw (a, ← m, ← e, ← d) f, rw (a, ← k) (rw (same, e) at z), order.tells (ap (λ (r : Played). r .answer) f ∙ sym a))
+
+-- a seek
+
+module _ (p : Player) (target : ℕ) (b : List ℕ) where
+  pub seek-rows : {c d : Checked} {t : Bool} → c ≡ standingOf p b → t ≡ isPast c target → d ≡ rowBy c t BeyondEnd → Gone b d (seekAnswer p target b)
+  unfolding seekAnswer
+  seek-rows s i j = gone-past b (standingAnswer p b) s target BeyondEnd i j
+
+  pub seek-goes : {d : Checked} → Gone b d (seekAnswer p target b) → {t : Bool} → t ≡ not (isAccepted (checkedAnswer d)) → t ≡ false → seekAnswer p target b ≡ Accepted
+  seek-goes g = gone-on b (seekAnswer p target b) g
+
+  pub seek-stands : seekAnswer p target b ≡ Accepted → standingAnswer p b ≡ Accepted
+  unfolding seekAnswer
+  seek-stands a = order.both-on (standingAnswer p b) _ a .0
+
+  pub started : {q : Player} → q ≡ startFor p target → {r : Player} → r ≡ movedOn (writesIn b) q (target - q .cycle) → r ≡ soughtFrom (writesIn b) p target
+  unfolding startFor soughtFrom
+  started e f = f ∙ rw e (go (leb (p .cycle) target))
+    where
+      go : (t : Bool) → movedOn (writesIn b) (cond t p (restarted p)) (target - (cond t p (restarted p)) .cycle) ≡ cond t (movedOn (writesIn b) p (target - p .cycle)) (movedOn (writesIn b) (restarted p) target)
+      go true = refl
+      go false = let z : target - 0 ≡ target = omega arith in rw z
+
+module _ (p : Player) (target : ℕ) where
+  pub start-here : p .cycle ≤ target → p ≡ startFor p target
+  unfolding startFor
+  start-here h = rw (le-leb (p .cycle) target h)
+
+  pub start-again : target < p .cycle → {f q : Player} → f ≡ fresh → q ≡ withMarks f (p .marks) → q ≡ startFor p target
+  unfolding startFor
+  start-again h e g = g ∙ rw (lt-leb (p .cycle) target h, e)
+
+-- a call that stops before it makes a turn
+pub turn-stops : (b : List ℕ) (a : Answer) (p q : Player) {c : Checked} → Gone b c a → {t : Bool} → t ≡ not (isAccepted (checkedAnswer c)) → t ≡ true →
+    {x : Answer} → x ≡ checkedAnswer c → {r : Turn} → r ≡ record { player = p; answer = x } → (r ≡ turnBy a p q) × Tells (r .answer) a
+turn-stops b a p q g i h e f = stopped-at b a g i h (λ why k. refused a p q k (gone-answer b a g e) f)
 
 -- a slot written
 
-module _ (u : Vsu) (m : List ℕ) (from : ℕ) (r : inRange u ≡ true) (h : from + 420 ≤ length m) where
+module _ (u : Vsu) (m : List ℕ) (from : ℕ) (r : inRange u ≡ true) (h : from + newest .size ≤ length m) where
   rest : midOf from (length m - from) m ≡ drop from m
   rest = take-all (length m - from) (drop from m) (omega (arith, length-drop from m))
 
-  laid : writeOut u (drop from m) ≡ imageOf u ++ drop 420 (drop from m)
-  unfolding writeOut
-  laid = rw (r, le-leb 420 (length (drop from m)) (omega (arith, length-drop from m, h)))
-
   -- the image laid in from there on
-  image-at : {after : List ℕ} → after ≡ writeOut u (midOf from (length m - from) m) → putMid from (length m - from) m after ≡ sets m from (imageOf u)
+  image-at : {after : List ℕ} → after ≡ writtenOf u (midOf from (length m - from) m) .out → putMid from (length m - from) m after ≡ sets m from (imageOf newest u)
   image-at {after} e =
-      let n : length (imageOf u) ≡ 420 = image-420 u in
+      let n : length (imageOf newest u) ≡ newest .size = image-420 u in
       let z : drop (length m - from) (drop from m) ≡ [] = drop-of-length-le (drop from m) {i = length m - from} (omega (arith, length-drop from m)) in
-      let w : from + length (imageOf u) ≡ from + 420 = omega (arith, n) in
-      rw (z, append-nil after, e, rest, laid, drop-drop 420 from m)
-      (sym (sets-eq (imageOf u) m from (omega (arith, n, h)) ∙ rw w (append-assoc (take from m) (imageOf u) (drop (from + 420) m))))
+      let w : from + length (imageOf newest u) ≡ from + newest .size = omega (arith, n) in
+      rw (z, append-nil after, e, rest, written u (drop from m) r (omega (arith, length-drop from m, h)), drop-drop (newest .size) from m)
+      (sym (sets-eq (imageOf newest u) m from (omega (arith, n, h)) ∙ rw w (append-assoc (take from m) (imageOf newest u) (drop (from + newest .size) m))))
 
-module _ (p : Player) (slot : ℕ) (m : List ℕ) (h : slot ≤ 15) (g : 6848 ≤ length m) (r : inRange (p .unit) ≡ true) where
-  pub kept : {at : ℕ} {m₁ m₂ after : List ℕ} → at ≡ place slot → m₁ ≡ sets m at (bytes 4 (p .cycle)) → m₂ ≡ sets m₁ (at + 4) (bytes 4 (p .applied)) →
-      after ≡ writeOut (p .unit) (midOf (at + 8) (length m₂ - (at + 8)) m₂) →
-      putMid (at + 8) (length m₂ - (at + 8)) m₂ after ≡ sets m (place slot) (slotOf p)
-  kept {at} {m₁} {m₂} {after} a d e f =
+module _ (p : Player) (slot : ℕ) (m : List ℕ) (h : slot ≤ 15) (g : memorySize ≤ length m) (r : inRange (p .unit) ≡ true) where
+  pub kept : {at : ℕ} {m₁ m₂ after : List ℕ} → at ≡ slotPlace slot → m₁ ≡ sets m at (bytes 4 (p .cycle)) → m₂ ≡ sets m₁ (at + appliedPlace) (bytes 4 (p .applied)) →
+      {u : Vsu} → u ≡ p .unit → after ≡ writtenOf u (midOf (at + imagePlace) (length m₂ - (at + imagePlace)) m₂) .out →
+      putMid (at + imagePlace) (length m₂ - (at + imagePlace)) m₂ after ≡ sets m (slotPlace slot) (slotOf p)
+  kept {at} {m₁} {m₂} {after} a d e w f =
       let n₁ : length m₁ ≡ length m = ap length d ∙ length-sets m at (bytes 4 (p .cycle)) in
-      let n₂ : length m₂ ≡ length m = ap length e ∙ length-sets m₁ (at + 4) (bytes 4 (p .applied)) ∙ n₁ in
-      let k₁ : at + 4 + length (bytes 4 (p .applied)) ≡ at + 8 = omega (arith, bytes-length 4 (p .applied)) in
-      let k₂ : at + length (bytes 4 (p .cycle)) ≡ at + 4 = omega (arith, bytes-length 4 (p .cycle)) in
-      image-at (p .unit) m₂ (at + 8) r (omega (arith, a, h, g, n₂)) f
-      ∙ ap (λ (x : List ℕ). sets x (at + 8) (imageOf (p .unit))) e
-      ∙ sets-append m₁ (at + 4) (bytes 4 (p .applied)) (imageOf (p .unit)) k₁
-      ∙ ap (λ (x : List ℕ). sets x (at + 4) (bytes 4 (p .applied) ++ imageOf (p .unit))) d
-      ∙ sets-append m at (bytes 4 (p .cycle)) (bytes 4 (p .applied) ++ imageOf (p .unit)) k₂
+      let n₂ : length m₂ ≡ length m = ap length e ∙ length-sets m₁ (at + appliedPlace) (bytes 4 (p .applied)) ∙ n₁ in
+      let k₁ : at + appliedPlace + length (bytes 4 (p .applied)) ≡ at + imagePlace = omega (arith, bytes-length 4 (p .applied)) in
+      let k₂ : at + length (bytes 4 (p .cycle)) ≡ at + appliedPlace = omega (arith, bytes-length 4 (p .cycle)) in
+      image-at (p .unit) m₂ (at + imagePlace) r (omega (arith, a, h, g, n₂)) (rw w at f)
+      ∙ ap (λ (x : List ℕ). sets x (at + imagePlace) (imageOf newest (p .unit))) e
+      ∙ sets-append m₁ (at + appliedPlace) (bytes 4 (p .applied)) (imageOf newest (p .unit)) k₁
+      ∙ ap (λ (x : List ℕ). sets x (at + appliedPlace) (bytes 4 (p .applied) ++ imageOf newest (p .unit))) d
+      ∙ sets-append m at (bytes 4 (p .cycle)) (bytes 4 (p .applied) ++ imageOf newest (p .unit)) k₂
       ∙ ap (λ (x : ℕ). sets m x (slotOf p)) a
 
 -- marks set
 
-module _ {c : Checked} (p : Player) (b : List ℕ) (s : c ≡ standingOf p b) (memory : List ℕ) where
-  abbrev SetTo : ℕ → Turn → List ℕ → Type 0
-  SetTo slot r after = (r ≡ setOf p slot b (length memory)) × (after ≡ setMemory p slot b memory)
+module _ (p : Player) (b : List ℕ) (memory : List ℕ) (slot : ℕ) (above : Refusal) where
+  abbrev Sets : Turn → List ℕ → Type 0
+  Sets r after = (r ≡ setOf above p slot b memory .turn) × (after ≡ setOf above p slot b memory .memory)
 
-  abbrev SetFree : Turn → List ℕ → Type 0
-  SetFree r after = (r ≡ setFreeOf p b (length memory)) × (after ≡ setFreeMemory p b memory)
+  pub set-rows : {c d e : Checked} → c ≡ standingOf p b → d ≡ rowBy c (ltb (length memory) memorySize) Room → e ≡ rowBy d (ltb 15 slot) above → Gone b e (setAnswer above p slot b (length memory))
+  unfolding setAnswer
+  set-rows s i j =
+      let a : Answer = standingAnswer p b in
+      let f : Answer = fault (ltb (length memory) memorySize) Room in
+      gone-row b (a then f) (gone-row b a s (ltb (length memory) memorySize) Room i) (ltb 15 slot) above j ∙ rw (then-then a f (fault (ltb 15 slot) above))
 
-  module _ {why : Refusal} (l : c ≡ checked.Refused why) {r : Turn} (e : r ≡ refusedTurn p why) where
-    pub set-log : (slot : ℕ) → SetTo slot r memory
-    unfolding setBy setMemoryBy
-    set-log slot = (rw (← s, l) e, rw (← s, l))
+  pub set-stops : {e : Checked} → Gone b e (setAnswer above p slot b (length memory)) → {t : Bool} → t ≡ not (isAccepted (checkedAnswer e)) → t ≡ true →
+      {x : Answer} → x ≡ checkedAnswer e → {r : Turn} → r ≡ record { player = p; answer = x } → Sets r memory
+  unfolding setBy
+  set-stops g i h e f =
+      let a : Answer = setAnswer above p slot b (length memory) in
+      stopped-at b a g i h (λ why k. (rw k (f ∙ rw (gone-answer b a g e, k)), rw k))
 
-    pub free-log : SetFree r memory
-    unfolding setFreeBy setMemoryBy
-    free-log = (rw (← s, l) e, rw (← s, l))
+  pub set-goes : {e : Checked} → Gone b e (setAnswer above p slot b (length memory)) → {t : Bool} → t ≡ not (isAccepted (checkedAnswer e)) → t ≡ false → setAnswer above p slot b (length memory) ≡ Accepted
+  set-goes g = gone-on b (setAnswer above p slot b (length memory)) g
 
-  module _ {count cycles : ℕ} (l : c ≡ checked.Log count cycles) {r : Turn} where
-    pub set-room : (slot : ℕ) → length memory < 6848 → r ≡ refusedTurn p Room → SetTo slot r memory
-    unfolding setBy setMemoryBy
-    set-room slot h e = let t = lt-leb 6848 (length memory) h in (rw (← s, l, t) e, rw (← s, l, t))
+  module _ (a : setAnswer above p slot b (length memory) ≡ Accepted) where
+    pub set-passed : (slot ≤ 15) × ((memorySize ≤ length memory) × (inRange (p .unit) ≡ true))
+    unfolding setAnswer
+    set-passed =
+        let t = deck.set-passed p b above slot (length memory) a in
+        (t .1, (t .0, deck.stands p b (order.both-on (standingAnswer p b) _ a .0) .ranged))
 
-    pub free-room : length memory < 6848 → r ≡ refusedTurn p Room → SetFree r memory
-    unfolding setFreeBy setMemoryBy
-    free-room h e = let t = lt-leb 6848 (length memory) h in (rw (← s, l, t) e, rw (← s, l, t))
+    pub set-done : {n : ℕ} {q : Player} {after : List ℕ} {r : Turn} → n ≡ withMark slot (p .marks) → q ≡ withMarks p n → r ≡ record { player = q; answer = Accepted } →
+        after ≡ sets memory (slotPlace slot) (slotOf p) → Sets r after
+    unfolding setBy
+    set-done d i e f = (rw (a, ← d, ← i) e, rw a f)
 
-    module _ (h : 6848 ≤ length memory) (slot : ℕ) where
-      pub set-number : 15 < slot → r ≡ refusedTurn p MarkNumber → SetTo slot r memory
-      unfolding setBy setMemoryBy
-      set-number g e = let t = le-leb 6848 (length memory) h in let k = lt-leb slot 15 g in (rw (← s, l, t, k) e, rw (← s, l, t, k))
-
-      pub set-done : {q : Player} {after : List ℕ} → slot ≤ 15 → q ≡ marked p slot → r ≡ turned q → after ≡ sets memory (place slot) (slotOf p) → SetTo slot r after
-      unfolding setBy setMemoryBy
-      set-done g d e f =
-          let t = le-leb 6848 (length memory) h in let k = le-leb slot 15 g in (rw (← s, l, t, k) (e ∙ ap turned d), rw (← s, l, t, k) f)
-
-      pub free-full : slot ≡ lowestFree (p .marks) → 15 < slot → r ≡ refusedTurn p MarksFull → SetFree r memory
-      unfolding setFreeBy setMemoryBy
-      free-full a g e = let t = le-leb 6848 (length memory) h in let k = lt-leb slot 15 g in (rw (← s, l, t, ← a, k) e, rw (← s, l, t, ← a, k))
-
-      pub free-done : {q : Player} {after : List ℕ} → slot ≡ lowestFree (p .marks) → slot ≤ 15 → q ≡ marked p slot → r ≡ turned q →
-          after ≡ sets memory (place slot) (slotOf p) → SetFree r after
-      unfolding setFreeBy setMemoryBy
-      free-done a g d e f =
-          let t = le-leb 6848 (length memory) h in let k = le-leb slot 15 g in (rw (← s, l, t, ← a, k) (e ∙ ap turned d), rw (← s, l, t, ← a, k) f)
+  pub set-tells : {after : List ℕ} {r : Turn} → Sets r after →
+      (r ≡ setOf above p slot b memory .turn) × (after ≡ setOf above p slot b memory .memory) × Tells (r .answer) (setAnswer above p slot b (length memory))
+  unfolding setBy
+  set-tells e = (e .0, e .1, order.tells (ap (λ (t : Turn). t .answer) (e .0) ∙ go (setAnswer above p slot b (length memory))))
+    where
+      go : (a : Answer) → setBy a p slot memory .turn .answer ≡ a
+      go Accepted = refl
+      go (Refused why) = refl
 
 -- a mark cleared
 
-module _ (p : Player) (slot : ℕ) {h : Bool} (i : h ≡ inRange (p .unit)) {r : Turn} where
-  pub clear-state : h ≡ false → r ≡ refusedTurn p State → r ≡ clearOf p slot
-  unfolding clearOf
-  clear-state g e = rw (← i, g) e
+module _ (slot : ℕ) {ranged : Bool} {marks : ℕ} (p : Player) (i : ranged ≡ inRange (p .unit)) (j : marks ≡ p .marks) where
+  pub clear-state : ranged ≡ false → Refused State ≡ clearAnswer p slot
+  unfolding clearAnswer unitAnswer fault _then_
+  clear-state g = rw (← i, g)
 
-  module _ (g : h ≡ true) where
-    pub clear-number : 15 < slot → r ≡ refusedTurn p MarkNumber → r ≡ clearOf p slot
-    unfolding clearOf
-    clear-number k e = rw (← i, g, lt-leb slot 15 k) e
+  module _ (g : ranged ≡ true) where
+    pub clear-number : 15 < slot → Refused MarkNumber ≡ clearAnswer p slot
+    unfolding clearAnswer unitAnswer fault _then_
+    clear-number k = rw (← i, g, lt-ltb 15 slot k)
 
-    module _ (k : slot ≤ 15) {t : Bool} (m : t ≡ isSet slot (p .marks)) where
-      pub clear-unset : t ≡ false → r ≡ refusedTurn p MarkUnset → r ≡ clearOf p slot
-      unfolding clearOf
-      clear-unset v e = rw (← i, g, le-leb slot 15 k, ← m, v) e
+    module _ (k : slot ≤ 15) {t : Bool} (m : t ≡ isSet slot marks) where
+      pub clear-unset : t ≡ false → Refused MarkUnset ≡ clearAnswer p slot
+      unfolding clearAnswer unitAnswer fault _then_
+      clear-unset v = rw (← i, g, le-ltb 15 slot k, ← j, ← m, v)
 
-      pub cleared : {n : ℕ} → t ≡ true → n ≡ withoutMark slot (p .marks) → r ≡ turned (withMarks p n) → r ≡ clearOf p slot
-      unfolding clearOf
-      cleared v d e = rw (← i, g, le-leb slot 15 k, ← m, v) (e ∙ ap (λ (x : ℕ). turned (withMarks p x)) d)
+      pub clear-set : t ≡ true → Accepted ≡ clearAnswer p slot
+      unfolding clearAnswer unitAnswer fault _then_
+      clear-set v = rw (← i, g, le-ltb 15 slot k, ← j, ← m, v)
 
--- a slot read
-
-module _ (p : Player) (slot : ℕ) (b : List ℕ) (count cycles : ℕ) (memory : List ℕ) {at cycle applied : ℕ}
-    (a : at ≡ place slot) (x : cycle ≡ number 4 memory at) (y : applied ≡ number 4 memory (at + 4))
-    {l : Loaded} (z : l ≡ readOf (take (at + 428 - (at + 8)) (drop (at + 8) memory))) where
-  slot-read : l ≡ readOf (take 420 (drop (place slot + 8) memory))
-  slot-read = let n : at + 428 - (at + 8) ≡ 420 = omega arith in rw (← a, ← n) z
-
-  recalled-by : wentBy (l .answer) (l .state) p cycle applied (placed b count cycles cycle applied) ≡ recalled p slot b count cycles memory
-  recalled-by = rw (x, y, slot-read, a)
-
-  pub recall-image : {why : Refusal} {r : Turn} → l .answer ≡ Refused why → r ≡ refusedTurn p why → r ≡ recalled p slot b count cycles memory
-  unfolding wentBy
-  recall-image v e = e ∙ rw v at recalled-by
-
-  module _ (v : l .answer ≡ Accepted) (k : checkOf first b ≡ checked.Log count cycles) {t : Bool}
-      (s : (k : ℕ) → checkOf first b ≡ checked.Log count k → t ≡ eqb applied (dueBefore (writesFrom first b count 0) cycle)) where
-    pub recall-place : {r : Turn} → (ltb cycles cycle || not t) ≡ true → r ≡ refusedTurn p Place → r ≡ recalled p slot b count cycles memory
-    unfolding wentBy
-    recall-place w e = e ∙ rw (v, placed-by b count cycles k cycle applied s w) at recalled-by
-
-    pub recall-done : {r : Turn} → (ltb cycles cycle || not t) ≡ false → r ≡ turned (record { unit = l .state; cycle = cycle; applied = applied; marks = p .marks }) →
-        r ≡ recalled p slot b count cycles memory
-    unfolding wentBy
-    recall-done w e = e ∙ rw (v, placed-by b count cycles k cycle applied s w) at recalled-by
+pub cleared : (p : Player) (slot : ℕ) {u : Vsu} {h : Bool} {a : Answer} {n : ℕ} {q : Player} {r : Turn} → u ≡ p .unit → h ≡ inRange u →
+    ((o : Player) → h ≡ inRange (o .unit) → p .marks ≡ o .marks → a ≡ clearAnswer o slot) →
+    n ≡ withoutMark slot (p .marks) → q ≡ withMarks p n → r ≡ turnBy a p q → (r ≡ clearOf p slot) × Tells (r .answer) (clearAnswer p slot)
+cleared p slot x y z d i e =
+    tells-too (clearAnswer p slot) p (withMarks p (withoutMark slot (p .marks))) (e ∙ rw (z p (y ∙ ap inRange x) refl, i, d))
 
 -- going to a mark
 
-module _ {c : Checked} (p : Player) (slot : ℕ) (b : List ℕ) (memory : List ℕ) (s : c ≡ standingOf p b) {r : Turn} where
-  pub go-log : {why : Refusal} → c ≡ checked.Refused why → r ≡ refusedTurn p why → r ≡ goToOf p slot b memory
-  unfolding goToBy
-  go-log l e = rw (← s, l) e
+module _ (p : Player) (slot : ℕ) (b : List ℕ) (memory : List ℕ) where
+  -- the rows before the slot's own
+  abbrev before : Answer
+  before = standingAnswer p b then fault (ltb (length memory) memorySize) Room then fault (ltb 15 slot) MarkNumber then fault (not (isSet slot (p .marks))) MarkUnset
 
-  module _ {count cycles : ℕ} (l : c ≡ checked.Log count cycles) where
-    pub go-room : length memory < 6848 → r ≡ refusedTurn p Room → r ≡ goToOf p slot b memory
-    unfolding goToBy
-    go-room h e = rw (← s, l, lt-leb 6848 (length memory) h) e
+  slots-own : Answer
+  slots-own = readAnswer newest (slotImage memory slot) then fault (misplaced b (slotCycle memory slot) (slotApplied memory slot)) Place
 
-    module _ (h : 6848 ≤ length memory) where
-      pub go-number : 15 < slot → r ≡ refusedTurn p MarkNumber → r ≡ goToOf p slot b memory
-      unfolding goToBy
-      go-number g e = rw (← s, l, le-leb 6848 (length memory) h, lt-leb slot 15 g) e
+  all-rows : goToAnswer p slot b memory ≡ (before then slots-own)
+  unfolding goToAnswer slots-own
+  all-rows =
+      rw (then-then (standingAnswer p b) (fault (ltb (length memory) memorySize) Room then fault (ltb 15 slot) MarkNumber then fault (not (isSet slot (p .marks))) MarkUnset) slots-own, then-then (fault (ltb (length memory) memorySize) Room) (fault (ltb 15 slot) MarkNumber then fault (not (isSet slot (p .marks))) MarkUnset) slots-own, then-then (fault (ltb 15 slot) MarkNumber) (fault (not (isSet slot (p .marks))) MarkUnset) slots-own)
 
-      module _ (g : slot ≤ 15) {t : Bool} (m : t ≡ isSet slot (p .marks)) where
-        pub go-unset : t ≡ false → r ≡ refusedTurn p MarkUnset → r ≡ goToOf p slot b memory
-        unfolding goToBy
-        go-unset v e = rw (← s, l, le-leb 6848 (length memory) h, le-leb slot 15 g, ← m, v) e
+  pub go-rows : {c d e f : Checked} {t : Bool} → c ≡ standingOf p b → d ≡ rowBy c (ltb (length memory) memorySize) Room → e ≡ rowBy d (ltb 15 slot) MarkNumber →
+      t ≡ isSet slot (p .marks) → f ≡ rowBy e (not t) MarkUnset → Gone b f before
+  go-rows s i j m k =
+      let a : Answer = standingAnswer p b in
+      let x : Answer = fault (ltb (length memory) memorySize) Room in
+      let y : Answer = fault (ltb 15 slot) MarkNumber in
+      let z : Answer = fault (not (isSet slot (p .marks))) MarkUnset in
+      let g = gone-row b (a then x) (gone-row b a s (ltb (length memory) memorySize) Room i) (ltb 15 slot) MarkNumber j in
+      gone-row b ((a then x) then y) g (not (isSet slot (p .marks))) MarkUnset (rw (← m) k) ∙ rw (then-then (a then x) y z, then-then a x (y then z))
 
-        pub went : t ≡ true → r ≡ recalled p slot b count cycles memory → r ≡ goToOf p slot b memory
-        unfolding goToBy
-        went v e = rw (← s, l, le-leb 6848 (length memory) h, le-leb slot 15 g, ← m, v) e
+  pub go-stops : {f : Checked} → Gone b f before → {t : Bool} → t ≡ not (isAccepted (checkedAnswer f)) → t ≡ true →
+      {x : Answer} → x ≡ checkedAnswer f → {r : Turn} → r ≡ record { player = p; answer = x } → (r ≡ goToOf p slot b memory) × Tells (r .answer) (goToAnswer p slot b memory)
+  go-stops g i h e f =
+      stopped-at b before g i h
+      (λ why k.
+      let w : goToAnswer p slot b memory ≡ Refused why = all-rows ∙ order.ends slots-own k in
+      refused (goToAnswer p slot b memory) p (inSlot p memory slot) w (gone-answer b before g e ∙ k ∙ sym w) f)
 
--- a place from which the log is run on
+  pub go-on : {f : Checked} → Gone b f before → {t : Bool} → t ≡ not (isAccepted (checkedAnswer f)) → t ≡ false → Recallable p slot b f memory
+  go-on g i h =
+      let a = gone-on b before g i h in
+      let s = order.both-on (standingAnswer p b) _ a in
+      let r = order.passed (ltb (length memory) memorySize) Room (s .1) in
+      let l = order.passed (ltb 15 slot) MarkNumber (r .1) in
+      record {
+        checked = rw a at g;
+        standing = s .0;
+        room = ltb-false (length memory) memorySize (r .0);
+        most = ltb-false 15 slot (l .0);
+        marked = not-false _ (order.was-sound (not (isSet slot (p .marks))) MarkUnset (l .1));
+      }
 
-dues-none : (ws : List Write) → 0 ≡ dueBefore ws 0
-unfolding dueBefore
-dues-none [] = refl
-dues-none (w ∷ ws) = rw (le-ltb (w .due) 0 (omega arith)) (dues-none ws ∙ omega arith)
+  -- the slot read
+  module _ {c d e : Checked} (k : Recallable p slot b c memory) {at cycle applied : ℕ} (a : at ≡ slotPlace slot) (x : cycle ≡ number 4 memory at) (y : applied ≡ number 4 memory (at + appliedPlace))
+      {l : Loaded} (z : l ≡ readOf (take (at + slotSize - (at + imagePlace)) (drop (at + imagePlace) memory))) {o : Answer} (v : o ≡ l .answer) (i : d ≡ answeredBy c o) {t : Bool}
+      (m : t ≡ isMisplaced d b cycle applied) (j : e ≡ rowBy d t Place) where
+    slot-read : l ≡ readOf (slotImage memory slot)
+    slot-read = let n : at + slotSize - (at + imagePlace) ≡ slotSize - imagePlace = omega arith in z ∙ ap readOf (rw (n, a))
 
-module _ (p : Player) (b : List ℕ) (count cycles : ℕ) {c : Checked} (s : c ≡ standingOf p b) (l : c ≡ checked.Log count cycles) where
-  -- from where the record stands
-  pub walk-on : {target : ℕ} → p .cycle ≤ target → Walkable b count (p .unit) (p .cycle) (p .applied) target
-  walk-on h =
-      let t = stands-by p b count cycles s l in
-      record { cycles = cycles; accepted = t .accepted; ranged = t .ranged; stands = t .due; ahead = h }
+    slot-answer : o ≡ readAnswer newest (slotImage memory slot)
+    slot-answer = v ∙ ap (λ (l : Loaded). l .answer) slot-read ∙ read-answer (slotImage memory slot)
 
-  -- from power-on
-  pub walk-again : {q : Player} (target : ℕ) → q ≡ fresh → Walkable b count (q .unit) (q .cycle) (q .applied) target
-  walk-again target e =
-      let t = stands-by p b count cycles s l in
-      rw e
-      (record {
-        cycles = cycles;
-        accepted = t .accepted;
-        ranged = power-on-in-range;
-        stands = dues-none (writesFrom first b count 0);
-        ahead = omega arith;
-      })
+    here : cycle ≡ slotCycle memory slot
+    here = rw (← a) x
 
--- the record n cycles on, as a walk leaves it
-module _ (ws : List Write) (p : Player) {u : Vsu} {applied : ℕ} where
-  moved-to : (n target : ℕ) → p .cycle + n ≡ target → u ≡ runOn ws (p .cycle) (p .unit) n → applied ≡ dueBefore ws target →
-      record { unit = u; cycle = target; applied = applied; marks = p .marks } ≡ movedOn ws p n
-  unfolding movedOn
-  moved-to n target e d f = rw (d, f, e)
+    done : applied ≡ slotApplied memory slot
+    done = rw (← a) y
 
-  pub moved : (target : ℕ) → p .cycle ≤ target → u ≡ runOn ws (p .cycle) (p .unit) (target - p .cycle) → applied ≡ dueBefore ws target →
-      record { unit = u; cycle = target; applied = applied; marks = p .marks } ≡ movedOn ws p (target - p .cycle)
-  moved target h = moved-to (target - p .cycle) target (omega (arith, h))
+    last-rows : Gone b e (goToAnswer p slot b memory)
+    unfolding goToAnswer fault _then_
+    last-rows =
+        let g = gone-answered b Accepted (k .checked) (readAnswer newest (slotImage memory slot)) {d = d} (rw (← slot-answer) i) in
+        let h = gone-misplaced b (Accepted then readAnswer newest (slotImage memory slot)) g (λ _. deck.stands p b (k .standing) .log) (slotCycle memory slot) (slotApplied memory slot) Place (rw (← here, ← done) m) j in
+        h ∙ rw (k .standing, le-ltb (length memory) memorySize (k .room), le-ltb 15 slot (k .most), k .marked)
 
--- a play
-
-module _ (ws : List Write) (p : Player) (n : ℕ) (out : List ℤ) {due : ℕ} (d : due ≡ framesDue (p .unit) n) where
-  abbrev Plays : Played → List ℤ → Type 0
-  Plays r after = (r ≡ playedOn ws p n (length out)) × (after ≡ playedOut ws p n out)
-
-  pub play-room : {r : Played} → length out / 2 < due → r ≡ refusedPlay p Room → Plays r out
-  unfolding playedOn playedOut
-  play-room h e = let t = rw d at (lt-leb due (length out / 2) h) in (rw t e, rw t)
-
-  module _ (h : due ≤ length out / 2) (target : ℕ) (g : target ≡ p .cycle + n) where
-    same : target - p .cycle ≡ n
-    same = omega (arith, g)
-
-    pub play-made : {u : Vsu} {applied : ℕ} {after : List ℤ} →
-        u ≡ runOn ws (p .cycle) (p .unit) (target - p .cycle) → applied ≡ dueBefore ws target →
-        after ≡ sides (framesOn ws (p .cycle) (p .unit) (target - p .cycle)) ++ drop (framesDue (p .unit) (target - p .cycle) * 2) out →
-        Plays (record { player = record { unit = u; cycle = target; applied = applied; marks = p .marks }; frames = due; answer = Accepted }) after
-    unfolding playedOn playedOut
-    play-made x y z =
-        let t = rw d at (le-leb due (length out / 2) h) in
-        (rw (t, ← moved-to ws p n target (sym g) (rw same at x) y, d), rw t (rw same at z))
-
-module _ {c : Checked} (p : Player) (n : ℕ) (b : List ℕ) (out : List ℤ) (s : c ≡ standingOf p b) where
-  abbrev PlayTo : Played → List ℤ → Type 0
-  PlayTo r after = (r ≡ playOf p n b (length out)) × (after ≡ playOut p n b out)
-
-  pub play-log : {why : Refusal} {r : Played} → c ≡ checked.Refused why → r ≡ refusedPlay p why → PlayTo r out
-  unfolding playBy playOutBy
-  play-log l e = (rw (← s, l) e, rw (← s, l))
-
-  module _ {count cycles : ℕ} (l : c ≡ checked.Log count cycles) where
-    pub play-beyond : {r : Played} → cycles < p .cycle + n → r ≡ refusedPlay p BeyondEnd → PlayTo r out
-    unfolding playBy playOutBy
-    play-beyond h e = let t = lt-leb (p .cycle + n) cycles h in (rw (← s, l, t) e, rw (← s, l, t))
-
-    pub play-done : {r : Played} {after : List ℤ} → p .cycle + n ≤ cycles →
-        (r ≡ playedOn (writesFrom first b count 0) p n (length out)) × (after ≡ playedOut (writesFrom first b count 0) p n out) → PlayTo r after
-    unfolding playBy playOutBy
-    play-done h e = let t = le-leb (p .cycle + n) cycles h in (rw (← s, l, t) (e .0), rw (← s, l, t) (e .1))
-
--- a seek
-
-module _ {c : Checked} (p : Player) (target : ℕ) (b : List ℕ) (s : c ≡ standingOf p b) {r : Turn} where
-  pub seek-log : {why : Refusal} → c ≡ checked.Refused why → r ≡ refusedTurn p why → r ≡ seekOf p target b
-  unfolding seekBy
-  seek-log l e = rw (← s, l) e
-
-  module _ {count cycles : ℕ} (l : c ≡ checked.Log count cycles) where
-    pub seek-beyond : cycles < target → r ≡ refusedTurn p BeyondEnd → r ≡ seekOf p target b
-    unfolding seekBy
-    seek-beyond h e = rw (← s, l, lt-leb target cycles h) e
-
-    module _ (h : target ≤ cycles) {q : Player} (e : r ≡ turned q) where
-      pub seek-on : p .cycle ≤ target → q ≡ movedOn (writesFrom first b count 0) p (target - p .cycle) → r ≡ seekOf p target b
-      unfolding seekBy
-      seek-on g d = rw (← s, l, le-leb target cycles h, le-leb (p .cycle) target g) (e ∙ ap turned d)
-
-      pub seek-back : {f : Player} → target < p .cycle → f ≡ fresh →
-          q ≡ movedOn (writesFrom first b count 0) (record { unit = f .unit; cycle = f .cycle; applied = f .applied; marks = p .marks }) (target - f .cycle) →
-          r ≡ seekOf p target b
-      unfolding seekBy
-      seek-back g a d =
-          let z : target - 0 ≡ target = omega arith in
-          rw (← s, l, le-leb target cycles h, lt-leb (p .cycle) target g) (e ∙ ap turned (rw (a, z) at d))
+    pub recalled : {w : Answer} {u : Vsu} {q : Player} {r : Turn} → w ≡ checkedAnswer e → u ≡ l .state → q ≡ placedAt p u cycle applied → r ≡ turnBy w p q → r ≡ goToOf p slot b memory
+    unfolding inSlot
+    recalled w u q r = r ∙ rw (gone-answer b (goToAnswer p slot b memory) last-rows w, q, u, ap (λ (l : Loaded). l .state) slot-read, here, done)

@@ -1,167 +1,45 @@
--- A run through a log's writes: in two spans, past a write, past cycles with none; and what the loops of `skip_to` and `run_to` hold.
-use Prim.Native.Nat.{ℕ, zero, suc, _+_, _-_, _*_, _/_, _%_, _<_, _≤_}
+-- A run through a log's writes: past a write, past cycles with none; and what the loops of `skip_to` and `run_to` hold.
+use Prim.Native.Nat.{ℕ, zero, suc, _+_, _-_, _*_, _<_, _≤_}
 use mathlib.Core.Path.{_≡_, refl, sym, ap, ap₂, _∙_}
 use mathlib.Core.Bool.{Bool, true, false, _&&_, and-false}
 use mathlib.Core.List.{List, [], _∷_, _++_, append-assoc, append-nil}
-use native.Mathlib.Nat.{add-assoc, add-sub-cancel-left, add-zero, add-suc, zero-add, le-trans, le-refl}
+use native.Mathlib.Nat.{zero-add, le-trans, le-refl}
 use native.Mathlib.Numerals.{add-one}
 use native.Mathlib.Omega.{arith}
-use borrow.Author.Tests.{lt-ltb, le-ltb, eq-eqb, ne-eqb, ltb-true, ltb-false, le-leb}
-use lib.Dec.{eqb, leb, ltb}
+use borrow.Author.Tests.{lt-ltb, le-ltb, eq-eqb, ne-eqb, ltb-true, ltb-false}
+use lib.Dec.{ltb}
 use lib.IntN.{ℤ}
-use lib.ListN.{drop, getD, length, length-append, length-drop, drop-of-length-le, take}
+use lib.ListN.{drop, length, length-append, length-drop, drop-of-length-le, take}
 use lib.Seq.{drop-at, drop-cons, drop-drop, take-all, take-at}
 use Rattle.laws.proofs.Cases.{each, ways}
 use Rattle.log.proofs.AcceptedLaws.{Accepted, accepted, due-rises, writes-at, writes-length}
-use Rattle.log.specs.Log.{dueAt, dueBefore, first, place, writeAt, writesFrom}
+use Rattle.log.specs.Log.{dueAt, dueBefore, edition1, writeAt, writesFrom}
 use Rattle.log.specs.declared.Write.{Write}
-use Rattle.vsu.proofs.RangeLaws.{cycle-keeps, power-on-in-range, range-facts, run-keeps, small-at, write-keeps}
-use Rattle.vsu.proofs.RunLaws.{frames-length, front-length, output-at, sides-append, sides-length}
-use Rattle.common.specs.Bits.{bit}
-use Rattle.vsu.specs.Core.{advanceAnswer, allAtMost, anyPlays, cycle, decodeOf, fitsIn, frames, framesDue, inRange, made, moved, plays, powerOn, run, runAnswer, runOut, sides, voiceAt, write, writeTo}
+use Rattle.vsu.proofs.RangeLaws.{range-facts, run-keeps, write-keeps}
+use Rattle.vsu.proofs.CoreLaws.{advance-gives, run-gives, write-gives}
+use Rattle.vsu.proofs.RunLaws.{frames-length, front-length, sides-append, sides-length}
+use Rattle.refusal.specs.declared.Answer.the-variants as answer
+use Rattle.vsu.specs.Core.{RunGives, advanceOf, cycle, frames, framesDue, inRange, made, run, runOf, sides, write, writeOf}
 use Rattle.vsu.specs.declared.core.Frame.{Frame}
 use Rattle.vsu.specs.declared.core.Moved.{Moved}
-use Rattle.vsu.specs.declared.core.Ran.{Ran}
-use Rattle.vsu.specs.declared.core.Register.{Register}
-use Rattle.vsu.specs.declared.core.Register.the-variants as registers
 use Rattle.vsu.specs.declared.core.Vsu.{Vsu}
-use Rattle.player.specs.Walk.{applyAt, framesIn, framesOf, framesOn, nextOf, runOn, stateAt, Walkable}
-
--- two spans are one
-
-pub run-on-add : (ws : List Write) (c : ℕ) (u : Vsu) (m n : ℕ) → runOn ws c u (m + n) ≡ runOn ws (c + m) (runOn ws c u m) n
-unfolding runOn
-run-on-add ws c u m zero = rw add-zero
-run-on-add ws c u m (suc n) =
-    ap (runOn ws c u) (add-suc m n) ∙ ap₂ (λ (t : ℕ) (v : Vsu). cycle (applyAt ws t v)) (sym (add-assoc c m n)) (run-on-add ws c u m n)
-
-pub frames-on-add : (ws : List Write) (c : ℕ) (u : Vsu) (m n : ℕ) → framesOn ws c u (m + n) ≡ framesOn ws c u m ++ framesOn ws (c + m) (runOn ws c u m) n
-unfolding framesOn
-frames-on-add ws c u m zero = rw (add-zero, append-nil)
-frames-on-add ws c u m (suc n) =
-    ap (framesOn ws c u) (add-suc m n)
-    ∙ ap₂ (λ (fs : List Frame) (gs : List Frame). fs ++ gs) (frames-on-add ws c u m n)
-    (ap₂ (λ (t : ℕ) (v : Vsu). made (applyAt ws t v)) (sym (add-assoc c m n)) (run-on-add ws c u m n))
-    ∙ append-assoc (framesOn ws c u m) (framesOn ws (c + m) (runOn ws c u m) n) _
-
--- the run from power-on is one of these
-
-pub state-add : (ws : List Write) (c n : ℕ) → stateAt ws (c + n) ≡ runOn ws c (stateAt ws c) n
-unfolding runOn stateAt
-state-add ws c zero = rw add-zero
-state-add ws c (suc n) = ap (stateAt ws) (add-suc c n) ∙ ap (λ (u : Vsu). cycle (applyAt ws (c + n) u)) (state-add ws c n)
-
-pub state-run : (ws : List Write) (t : ℕ) → stateAt ws t ≡ runOn ws 0 powerOn t
-unfolding stateAt
-state-run ws t = ap (stateAt ws) (sym (zero-add t)) ∙ state-add ws 0 t
-
-pub frames-of : (ws : List Write) (a n : ℕ) → framesOf ws a n ≡ framesOn ws a (stateAt ws a) n
-unfolding framesOf framesOn
-frames-of ws a zero = refl
-frames-of ws a (suc n) =
-    ap₂ (λ (fs : List Frame) (u : Vsu). fs ++ made (applyAt ws (a + n) u)) (frames-of ws a n) (state-add ws a n)
-
-pub frames-span : (ws : List Write) (a n : ℕ) → framesIn ws a (a + n) ≡ framesOn ws a (stateAt ws a) n
-frames-span ws a n = rw (add-sub-cancel-left a n) (frames-of ws a n)
-
--- how many are due
-
-pub due-none : (ws : List Write) → dueBefore ws 0 ≡ 0
-unfolding dueBefore
-due-none [] = refl
-due-none (w ∷ ws) = rw (le-ltb (w .due) 0 (omega arith), due-none ws)
-
-pub due-most : (ws : List Write) (c : ℕ) → dueBefore ws c ≤ length ws
-unfolding dueBefore
-due-most [] c = omega arith
-due-most (w ∷ ws) c = ways (λ (k : ℕ). k + dueBefore ws c ≤ suc (length ws)) (ltb (w .due) c) (λ _. omega (arith, due-most ws c)) (λ _. omega (arith, due-most ws c))
-
--- a state in range stays in range, and a write leaves the output counter
-
-abbrev pub Bytes : List Write → Type 0
-Bytes [] = Unit
-Bytes (w ∷ ws) = (w .byte < 256) × Bytes ws
-
-pub bytes-from : (b : List ℕ) → ((i : ℕ) → getD b i 0 < 256) → (n i : ℕ) → Bytes (writesFrom first b n i)
-unfolding writesFrom writeAt
-bytes-from b h zero i = tt
-bytes-from b h (suc n) i = (h (place first i + 6), bytes-from b h n (suc i))
-
-pub bytes-of : (b : List ℕ) → allAtMost 255 b ≡ true → (n i : ℕ) → Bytes (writesFrom first b n i)
-bytes-of b h = bytes-from b (λ i. omega (arith, small-at 255 b h i))
-
-pub apply-keeps : (ws : List Write) (t : ℕ) (u : Vsu) → Bytes ws → inRange u ≡ true → inRange (applyAt ws t u) ≡ true
-unfolding applyAt
-apply-keeps [] t u b h = h
-apply-keeps (w ∷ ws) t u b h =
-    apply-keeps ws t _ (b .1)
-    (ways (λ (v : Vsu). inRange v ≡ true) (eqb (w .due) t) (λ _. write-keeps u (w .address) (w .byte) (b .0) h) (λ _. h))
-
-pub run-on-keeps : (ws : List Write) (c : ℕ) (u : Vsu) (n : ℕ) → Bytes ws → inRange u ≡ true → inRange (runOn ws c u n) ≡ true
-unfolding runOn
-run-on-keeps ws c u zero b h = h
-run-on-keeps ws c u (suc n) b h = cycle-keeps _ (apply-keeps ws (c + n) (runOn ws c u n) b (run-on-keeps ws c u n b h))
-
-pub state-keeps : (ws : List Write) (t : ℕ) → Bytes ws → inRange (stateAt ws t) ≡ true
-state-keeps ws t b = rw (state-run ws t) (run-on-keeps ws 0 powerOn t b power-on-in-range)
-
-abbrev Kept : Vsu → Vsu → Type 0
-Kept u v = v .output ≡ u .output
-
-write-output : (r : Register) (b : ℕ) (u : Vsu) → writeTo r b u .output ≡ u .output
-unfolding writeTo
-write-output (registers.Wave at) b u = ways (Kept u) (anyPlays (u .voices)) (λ _. refl) (λ _. refl)
-write-output (registers.Modulation at) b u = ways (Kept u) (plays (voiceAt 4 (u .voices))) (λ _. refl) (λ _. refl)
-write-output (registers.Channel k offset) b u = refl
-write-output registers.Stop b u = ways (Kept u) (bit 0 b) (λ _. refl) (λ _. refl)
-write-output registers.Nothing b u = refl
-
-apply-output : (ws : List Write) (t : ℕ) (u : Vsu) → applyAt ws t u .output ≡ u .output
-unfolding applyAt
-apply-output [] t u = refl
-apply-output (w ∷ ws) t u =
-    apply-output ws t _ ∙ ways (Kept u) (eqb (w .due) t) (λ _. write-output (decodeOf (w .address)) (w .byte) u) (λ _. refl)
-
-module _ (u : Vsu) (h : u .output ≤ 479) where
-  cycle-output : cycle u .output ≡ (u .output + 1) % 480
-  unfolding run
-  cycle-output = output-at u h 1
-
-  made-count : length (made u) ≡ (u .output + 1) / 480
-  unfolding run frames
-  made-count = frames-length u h 1
-
-module _ (ws : List Write) (c : ℕ) (u : Vsu) (h : u .output ≤ 479) where
-  pub run-on-output : (n : ℕ) → runOn ws c u n .output ≡ (u .output + n) % 480
-  unfolding runOn
-  run-on-output zero = omega arith
-  run-on-output (suc n) =
-      let e : applyAt ws (c + n) (runOn ws c u n) .output ≡ (u .output + n) % 480 =
-      apply-output ws (c + n) (runOn ws c u n) ∙ run-on-output n in
-      omega (arith, cycle-output (applyAt ws (c + n) (runOn ws c u n)) (omega arith))
-
-  pub frames-on-length : (n : ℕ) → length (framesOn ws c u n) ≡ framesDue u n
-  unfolding framesOn
-  frames-on-length zero = omega arith
-  frames-on-length (suc n) =
-      let e : applyAt ws (c + n) (runOn ws c u n) .output ≡ (u .output + n) % 480 =
-      apply-output ws (c + n) (runOn ws c u n) ∙ run-on-output n in
-      length-append (framesOn ws c u n) (made (applyAt ws (c + n) (runOn ws c u n)))
-      ∙ omega (arith, frames-on-length n, made-count (applyAt ws (c + n) (runOn ws c u n)) (omega arith))
+use Rattle.deck.specs.Unbroken.{applyAt, framesOn, runOn}
+use Rattle.deck.proofs.UnbrokenLaws.{frames-on-add, frames-on-length, run-on-add}
+use Rattle.player.specs.Walk.{nextOf, Walkable}
 
 -- the due cycle that the code's walk goes by
 
 pub record Next (b : List ℕ) (count k target due : ℕ) : Type 0 where
   pub most : due ≤ target
-  pub none : k < count → due ≤ dueAt first b k
-  pub some : due < target → (k < count) × (due ≡ dueAt first b k)
+  pub none : k < count → due ≤ dueAt edition1 b k
+  pub some : due < target → (k < count) × (due ≡ dueAt edition1 b k)
 
 module _ (b : List ℕ) (count k target : ℕ) where
-  pub next-here : k < count → {due : ℕ} → due ≡ dueAt first b k → due < target → due ≡ nextOf b count k target
+  pub next-here : k < count → {due : ℕ} → due ≡ dueAt edition1 b k → due < target → due ≡ nextOf b count k target
   unfolding nextOf
   next-here h e l = rw (← e, lt-ltb k count h, lt-ltb _ target l)
 
-  pub next-far : {due : ℕ} → due ≡ dueAt first b k → target ≤ due → target ≡ nextOf b count k target
+  pub next-far : {due : ℕ} → due ≡ dueAt edition1 b k → target ≤ due → target ≡ nextOf b count k target
   unfolding nextOf
   next-far e l = rw (← e, le-ltb _ target l, and-false)
 
@@ -172,12 +50,12 @@ module _ (b : List ℕ) (count k target : ℕ) where
   next-is : Next b count k target (nextOf b count k target)
   unfolding nextOf
   next-is =
-      ways (Next b count k target) (ltb k count && ltb (dueAt first b k) target)
+      ways (Next b count k target) (ltb k count && ltb (dueAt edition1 b k) target)
       (λ t.
-      each (ltb k count) (ltb (dueAt first b k) target ∷ []) t
+      each (ltb k count) (ltb (dueAt edition1 b k) target ∷ []) t
       (λ e.
       record {
-        most = omega (arith, ltb-true (dueAt first b k) target (e .1 .0));
+        most = omega (arith, ltb-true (dueAt edition1 b k) target (e .1 .0));
         none = λ h. le-refl _;
         some = λ h. (ltb-true _ _ (e .0), refl);
       }))
@@ -205,18 +83,18 @@ later-le : (ws : List Write) {c d : ℕ} → d ≤ c → Later c ws → Later d 
 later-le [] h l = tt
 later-le (w ∷ ws) h l = (le-trans h (l .0), later-le ws h (l .1))
 
-module _ {b : List ℕ} {n cycles : ℕ} (a : Accepted first b n cycles) where
-  later-from : (m i c : ℕ) → i + m ≤ n → (0 < m → c ≤ dueAt first b i) → Later c (writesFrom first b m i)
+module _ {b : List ℕ} {n cycles : ℕ} (a : Accepted edition1 b n cycles) where
+  later-from : (m i c : ℕ) → i + m ≤ n → (0 < m → c ≤ dueAt edition1 b i) → Later c (writesFrom edition1 b m i)
   unfolding writesFrom writeAt
   later-from zero i c h g = tt
   later-from (suc m) i c h g =
       (g (omega arith), later-from m (suc i) c (omega arith) (λ p. le-trans (g (omega arith)) (due-rises a i (omega arith))))
 
-  pub rising-from : (m i : ℕ) → i + m ≤ n → Rising (writesFrom first b m i)
+  pub rising-from : (m i : ℕ) → i + m ≤ n → Rising (writesFrom edition1 b m i)
   unfolding writesFrom writeAt
   rising-from zero i h = tt
   rising-from (suc m) i h =
-      (later-from m (suc i) (dueAt first b i) (omega arith) (λ p. due-rises a i (omega arith)), rising-from m (suc i) (omega arith))
+      (later-from m (suc i) (dueAt edition1 b i) (omega arith) (λ p. due-rises a i (omega arith)), rising-from m (suc i) (omega arith))
 
 rising-drop : (k : ℕ) (ws : List Write) → Rising ws → Rising (drop k ws)
 rising-drop zero ws r = r
@@ -376,6 +254,10 @@ module _ (ws : List Write) (u : Vsu) (start target : ℕ) where
             ∙ ap (runOn (drop (k + 1) ws) cycle (write (w .address) (w .byte) unit)) (sym (one-turn n));
       }
 
+  -- what the unit's call makes of it
+  pub written-by : {unit : Vsu} {k cycle : ℕ} (w : Write) → Walking unit k cycle → {v : Vsu} → v ≡ writeOf (w .address) (w .byte) unit .state → v ≡ write (w .address) (w .byte) unit
+  written-by {unit} w h e = e ∙ ap (λ (m : Moved). m .state) (write-gives unit (h .ranged) (w .address) (w .byte))
+
   -- nothing is due before the cycle `due`
 
   pub record Quiet (k cycle due : ℕ) : Type 0 where
@@ -417,10 +299,9 @@ module _ (ws : List Write) (u : Vsu) (start target : ℕ) where
           same = h .same ∙ quiet-run;
         }
 
-  pub walk-skips : {unit : Vsu} {k cycle due : ℕ} → Walking unit k cycle → Quiet k cycle due → {m : Moved} → m ≡ advanceAnswer (due - cycle) unit → Walking (m .state) k due
-  unfolding moved
-  walk-skips {unit} {k} {cycle} {due} h q e =
-      let s = ap (λ (m : Moved). m .state) (rw (h .ranged) at e) in rw s (walk-runs unit q h)
+  pub walk-advances : {unit : Vsu} {k cycle due : ℕ} → Walking unit k cycle → Quiet k cycle due → {v : Vsu} → v ≡ advanceOf (due - cycle) unit .state → Walking v k due
+  walk-advances {unit} {k} {cycle} {due} h q e =
+      let s = e ∙ ap (λ (m : Moved). m .state) (advance-gives unit (h .ranged) (due - cycle)) in rw s (walk-runs unit q h)
 
   -- What the loop of `run_to` holds besides: the frames that are done stand at the front of the buffer.
 
@@ -488,6 +369,10 @@ module _ (ws : List Write) (u : Vsu) (start target : ℕ) where
         omega (arith, h .front, sides-length (h .done), ap length f, frames-on-length ws start u (range-facts u ranged .output) (target - start)) in
         h .buffer ∙ ap₂ (λ (fs : List Frame) (n : ℕ). sides fs ++ drop n before) (sym f) g
 
+    -- so do those up to the cycle `due`
+    pub play-more : {due : ℕ} → Quiet k cycle due → at + framesDue unit (due - cycle) * 2 ≤ length before
+    play-more q = omega (arith, q .most, to-come)
+
     -- what `run` is lent is the buffer from `at` on, as it was
 
     behind : drop at out ≡ drop at before
@@ -504,23 +389,24 @@ module _ (ws : List Write) (u : Vsu) (start target : ℕ) where
       -- a run up to the cycle `due`, before which nothing is due
 
       module _ {due : ℕ} (q : Quiet k cycle due) where
-        fits : fitsIn (due - cycle) unit (length (take size (drop at out))) ≡ true
-        fits =
-            le-leb (framesDue unit (due - cycle)) (length (take size (drop at out)) / 2)
+        abbrev given : RunGives
+        given = runOf (due - cycle) unit (take size (drop at out))
+
+        gives : given ≡ record { ran = record { state = run (due - cycle) unit; frames = framesDue unit (due - cycle); answer = answer.Accepted }; out = sides (frames (due - cycle) unit) ++ drop (framesDue unit (due - cycle) * 2) (take size (drop at out)) }
+        gives =
+            run-gives unit (h .walking .ranged) (due - cycle) (take size (drop at out))
             (omega (arith, q .most, to-come, ap length lent, length-drop at before))
 
-        answered : {r : Ran} → r ≡ runAnswer (due - cycle) unit (length (take size (drop at out))) → (r .state ≡ run (due - cycle) unit) × (r .frames ≡ framesDue unit (due - cycle))
-        unfolding runAnswer
-        answered e = let a = rw (h .walking .ranged, fits) at e in (ap (λ (r : Ran). r .state) a, ap (λ (r : Ran). r .frames) a)
+        answered : {v : Vsu} → v ≡ given .ran .state → v ≡ run (due - cycle) unit
+        answered e = e ∙ ap (λ (g : RunGives). g .ran .state) gives
 
-        filled : {ys : List ℤ} → ys ≡ runOut (due - cycle) unit (take size (drop at out)) → ys ≡ sides (frames (due - cycle) unit) ++ drop (framesDue unit (due - cycle) * 2) (drop at before)
-        unfolding runOut
+        filled : {ys : List ℤ} → ys ≡ given .out → ys ≡ sides (frames (due - cycle) unit) ++ drop (framesDue unit (due - cycle) * 2) (drop at before)
         filled f =
             f
-            ∙ rw (h .walking .ranged, fits)
-            (ap (λ (rest : List ℤ). sides (frames (due - cycle) unit) ++ drop (framesDue unit (due - cycle) * 2) rest) lent)
+            ∙ ap (λ (g : RunGives). g .out) gives
+            ∙ ap (λ (rest : List ℤ). sides (frames (due - cycle) unit) ++ drop (framesDue unit (due - cycle) * 2) rest) lent
 
-        longer : {ys : List ℤ} {n : ℕ} → ys ≡ runOut (due - cycle) unit (take size (drop at out)) → n ≡ framesDue unit (due - cycle) → take at out ++ (ys ++ drop size (drop at out)) ≡ sides (h .done ++ frames (due - cycle) unit) ++ drop (at + 2 * n) before
+        longer : {ys : List ℤ} {n : ℕ} → ys ≡ given .out → n ≡ framesDue unit (due - cycle) → take at out ++ (ys ++ drop size (drop at out)) ≡ sides (h .done ++ frames (due - cycle) unit) ++ drop (at + 2 * n) before
         longer {ys} {n} f e =
             let d : at + framesDue unit (due - cycle) * 2 ≡ at + 2 * n = omega arith in
             ap₂ (λ (xs : List ℤ) (zs : List ℤ). xs ++ zs)
@@ -530,41 +416,41 @@ module _ (ws : List Write) (u : Vsu) (start target : ℕ) where
             ∙ ap₂ (λ (xs : List ℤ) (zs : List ℤ). xs ++ zs) (sym (sides-append (h .done) (frames (due - cycle) unit)))
             (drop-drop (framesDue unit (due - cycle) * 2) at before ∙ ap (λ (i : ℕ). drop i before) d)
 
-        pub play-runs : {r : Ran} → r ≡ runAnswer (due - cycle) unit (length (take size (drop at out))) → {ys : List ℤ} → ys ≡ runOut (due - cycle) unit (take size (drop at out)) → Playing before (r .state) k due (take at out ++ (ys ++ drop size (drop at out))) (at + 2 * r .frames)
-        play-runs {r} e {ys} f =
+        pub play-runs : {v : Vsu} → v ≡ given .ran .state → {ys : List ℤ} → ys ≡ given .out → {n : ℕ} → n ≡ framesDue unit (due - cycle) → Playing before v k due (take at out ++ (ys ++ drop size (drop at out))) (at + 2 * n)
+        play-runs {v} e {ys} f {n} m =
             let a = answered e in
             record {
-              walking = rw (a .0) (walk-runs unit q (h .walking));
+              walking = rw a (walk-runs unit q (h .walking));
               done = h .done ++ frames (due - cycle) unit;
               front =
                   omega (
                     arith,
-                    a .1,
+                    m,
                     h .front,
                     sides-length (h .done),
                     sides-length (h .done ++ frames (due - cycle) unit),
                     length-append (h .done) (frames (due - cycle) unit),
                     frames-length unit (range-facts unit (h .walking .ranged) .output) (due - cycle),
                   );
-              buffer = longer f (a .1);
+              buffer = longer f m;
               whole =
                   h .whole
                   ∙ ap (λ (gs : List Frame). h .done ++ gs) (quiet-frames unit q)
                   ∙ sym (append-assoc (h .done) (frames (due - cycle) unit) _)
-                  ∙ ap (λ (v : Vsu). h .done ++ frames (due - cycle) unit ++ framesOn (drop k ws) due v (target - due)) (sym (a .0));
+                  ∙ ap (λ (v : Vsu). h .done ++ frames (due - cycle) unit ++ framesOn (drop k ws) due v (target - due)) (sym a);
             }
 
 -- The writes of an accepted log, and what the code reads of them.
 
 module _ (b : List ℕ) (count : ℕ) where
   abbrev pub Log : List Write
-  Log = writesFrom first b count 0
+  Log = writesFrom edition1 b count 0
 
-  rest-cons : (k : ℕ) → k < count → drop k Log ≡ writeAt first b k ∷ drop (k + 1) Log
+  rest-cons : (k : ℕ) → k < count → drop k Log ≡ writeAt edition1 b k ∷ drop (k + 1) Log
   rest-cons k h =
-      drop-cons Log k (writeAt first b k) (omega (arith, writes-length first b count 0))
+      drop-cons Log k (writeAt edition1 b k) (omega (arith, writes-length edition1 b count 0))
       ∙ ap₂ (λ (w : Write) (vs : List Write). w ∷ vs)
-      (writes-at first b count 0 k (writeAt first b k) h ∙ ap (writeAt first b) (zero-add k))
+      (writes-at edition1 b count 0 k (writeAt edition1 b k) h ∙ ap (writeAt edition1 b) (zero-add k))
       (ap (λ (i : ℕ). drop i Log) (sym (add-one k)))
 
   rest-later : (k target due : ℕ) → Rising Log → Next b count k target due → Later due (drop k Log)
@@ -574,14 +460,14 @@ module _ (b : List ℕ) (count : ℕ) where
       go : (t : Bool) → ltb k count ≡ t → Later due (drop k Log)
       go true t =
           let h : k < count = ltb-true _ _ t in
-          let s : Rising (writeAt first b k ∷ drop (k + 1) Log) = rw (rest-cons k h) at (rising-drop k Log r) in
+          let s : Rising (writeAt edition1 b k ∷ drop (k + 1) Log) = rw (rest-cons k h) at (rising-drop k Log r) in
           rw (rest-cons k h) (n .none h, later-le (drop (k + 1) Log) (n .none h) (s .0))
       go false t =
-          rw (drop-of-length-le Log {i = k} (omega (arith, writes-length first b count 0, ltb-false k count t))) tt
+          rw (drop-of-length-le Log {i = k} (omega (arith, writes-length edition1 b count 0, ltb-false k count t))) tt
 
   module _ (u : Vsu) (start applied target : ℕ) (p : Walkable b count u start applied target) where
     rising : Rising Log
-    rising = rising-from (accepted first b count (p .cycles) (p .accepted)) count 0 (omega arith)
+    rising = rising-from (accepted edition1 b count (p .cycles) (p .accepted)) count 0 (omega arith)
 
     pub log-walks : Walking Log u start target u applied start
     log-walks = walk-starts Log u start target rising (p .ranged) (p .stands) (p .ahead)
@@ -590,23 +476,23 @@ module _ (b : List ℕ) (count : ℕ) where
     log-plays before = play-starts Log u start target before rising (p .ranged) (p .stands) (p .ahead)
 
     module _ {unit : Vsu} {k cycle due : ℕ} (h : Walking Log u start target unit k cycle) (e : due ≡ nextOf b count k target) where
-      log-next : cycle < target → due ≤ cycle → (k < count) × (dueAt first b k ≡ cycle)
+      log-next : cycle < target → due ≤ cycle → (k < count) × (dueAt edition1 b k ≡ cycle)
       unfolding writeAt
       log-next l m =
           let s = next-facts b count k target e .some (omega arith) in
-          let a : Later cycle (writeAt first b k ∷ drop (k + 1) Log) = rw (rest-cons k (s .0)) at (h .ahead) in
+          let a : Later cycle (writeAt edition1 b k ∷ drop (k + 1) Log) = rw (rest-cons k (s .0)) at (h .ahead) in
           (s .0, omega (arith, s .1, a .0))
 
       pub log-left : cycle < target → due ≤ cycle → k < count
       log-left l m = log-next l m .0
 
-      pub log-entry : cycle < target → due ≤ cycle → {w : Write} → w ≡ writeAt first b k → w .byte < 256 → Entry Log u start target k cycle w
+      pub log-entry : cycle < target → due ≤ cycle → {w : Write} → w ≡ writeAt edition1 b k → w .byte < 256 → Entry Log u start target k cycle w
       unfolding writeAt
       log-entry l m {w} f g =
           let s = log-next l m in
           record {
             before = l;
-            known = omega (arith, writes-length first b count 0, s .0);
+            known = omega (arith, writes-length edition1 b count 0, s .0);
             next = rw f (rest-cons k (s .0));
             now = ap (λ (w : Write). w .due) f ∙ s .1;
             byte = g;

@@ -1,4 +1,2 @@
-pub mod Marks
+pub mod Rows
 pub mod Walk
-pub mod Player
-pub mod Calls

@@ -1,57 +1,46 @@
--- The run of demand 3, over writes: "At cycle T, exactly the entries due before T have been applied; one due at T goes in before cycle
--- T + 1 runs."
-use Prim.Native.Nat.{ℕ, zero, suc, _+_, _-_, _≤_}
+-- What the inner contracts of the code go by; nothing to believe. What the calls promise is in `deck`.
+use Prim.Native.Nat.{ℕ, _≤_}
 use mathlib.Core.Path.{_≡_}
-use mathlib.Core.Bool.{Bool, true, false, cond, _&&_}
-use mathlib.Core.List.{List, [], _∷_, _++_}
-use lib.Dec.{eqb, ltb}
-use Rattle.log.specs.Log.{checkOf, dueAt, dueBefore, first, writesFrom}
+use mathlib.Core.Bool.{true, cond, _&&_}
+use mathlib.Core.List.{List}
+use lib.Dec.{leb, ltb}
+use lib.ListN.{length}
+use Rattle.deck.specs.Player.{lengthIn, memorySize, restarted, standingAnswer}
+use Rattle.deck.specs.declared.Player.{Player}
+use Rattle.log.specs.Log.{checkOf, checkedBy, countOf, dueAt, dueBefore, edition1, writesFrom}
+use Rattle.log.specs.declared.Checked.{Checked}
 use Rattle.log.specs.declared.Checked.the-variants as checked
-use Rattle.log.specs.declared.Write.{Write}
-use Rattle.vsu.specs.Core.{cycle, inRange, made, powerOn, write}
-use Rattle.vsu.specs.declared.core.Frame.{Frame}
+use Rattle.marks.specs.Marks.{isSet}
+use Rattle.refusal.specs.declared.Answer.{Answer}
+use Rattle.refusal.specs.declared.Answer.the-variants.{Accepted}
+use Rattle.vsu.specs.Core.{inRange}
 use Rattle.vsu.specs.declared.core.Vsu.{Vsu}
 
--- the writes due at a cycle, "in file order"
-unfoldable pub applyAt : List Write → ℕ → Vsu → Vsu
-applyAt [] t u = u
-applyAt (w ∷ ws) t u = applyAt ws t (cond (eqb (w .due) t) (write (w .address) (w .byte) u) u)
-
--- the unbroken run from power-on, cycle by cycle
-unfoldable pub stateAt : List Write → ℕ → Vsu
-stateAt ws zero = powerOn
-stateAt ws (suc t) = cycle (applyAt ws t (stateAt ws t))
-
--- its frames of the n cycles from cycle a on
-unfoldable pub framesOf : List Write → ℕ → ℕ → List Frame
-framesOf ws a zero = []
-framesOf ws a (suc n) = framesOf ws a n ++ made (applyAt ws (a + n) (stateAt ws (a + n)))
-
--- its frames from cycle a to cycle b
-abbrev pub framesIn : List Write → ℕ → ℕ → List Frame
-framesIn ws a b = framesOf ws a (b - a)
-
--- The same from any state: n cycles on from cycle c. What a call does to any record in range.
-
-unfoldable pub runOn : List Write → ℕ → Vsu → ℕ → Vsu
-runOn ws c u zero = u
-runOn ws c u (suc n) = cycle (applyAt ws (c + n) (runOn ws c u n))
-
-unfoldable pub framesOn : List Write → ℕ → Vsu → ℕ → List Frame
-framesOn ws c u zero = []
-framesOn ws c u (suc n) = framesOn ws c u n ++ made (applyAt ws (c + n) (runOn ws c u n))
-
--- What the code's walk goes by.
+-- a record at another place of the log, with its marks
+abbrev pub placedAt : Player → Vsu → ℕ → ℕ → Player
+placedAt p unit cycle applied = record { unit = unit; cycle = cycle; applied = applied; marks = p .marks }
 
 -- the due cycle of the next entry, or the target where that is earlier or the log has ended
 unfoldable pub nextOf : List ℕ → ℕ → ℕ → ℕ → ℕ
 nextOf b count applied target =
-    cond (ltb applied count && ltb (dueAt first b applied) target) (dueAt first b applied) target
+    cond (ltb applied count && ltb (dueAt edition1 b applied) target) (dueAt edition1 b applied) target
 
 -- a place from which an accepted log can be run on to a target
 pub record Walkable (b : List ℕ) (count : ℕ) (u : Vsu) (start applied target : ℕ) : Type 0 where
   pub cycles : ℕ
-  pub accepted : checkOf first b ≡ checked.Log count cycles
+  pub accepted : checkOf edition1 b ≡ checked.Log count cycles
   pub ranged : inRange u ≡ true
-  pub stands : applied ≡ dueBefore (writesFrom first b count 0) start
+  pub stands : applied ≡ dueBefore (writesFrom edition1 b count 0) start
   pub ahead : start ≤ target
+
+-- where a seek begins
+unfoldable pub startFor : Player → ℕ → Player
+startFor p target = cond (leb (p .cycle) target) p (restarted p)
+
+-- a set slot that a record can go to, but for what the slot holds
+pub record Recallable (p : Player) (slot : ℕ) (b : List ℕ) (c : Checked) (memory : List ℕ) : Type 0 where
+  pub checked : c ≡ checkedBy Accepted (countOf b) (lengthIn b)
+  pub standing : standingAnswer p b ≡ Accepted
+  pub room : memorySize ≤ length memory
+  pub most : slot ≤ 15
+  pub marked : isSet slot (p .marks) ≡ true

@@ -1,7 +1,16 @@
 // The player: one log, played, sought and marked. Each call checks what it is lent, in document 01's order.
-mod marks;
+mod rows;
 mod walk;
 
+use crate::walk::Walked;
+use deck::APPLIED_PLACE;
+use deck::IMAGE_PLACE;
+use deck::MEMORY_SIZE;
+use deck::Played;
+use deck::Player;
+use deck::SLOT_SIZE;
+use deck::Turn;
+use image::Loaded;
 use log::Checked;
 use refusal::Answer;
 use refusal::Refusal;
@@ -9,51 +18,23 @@ use vsu::core;
 use vsu::core::Vsu;
 ghost use mathlib.Core.Path.{_≡_};
 ghost use mathlib.Core.Bool.{true};
-ghost use Prim.Native.Nat.{_+_, _-_, _^_, _<_, _≤_};
+ghost use Prim.Native.Nat.{_-_, _≤_};
 ghost use lib.ListN.{length};
 ghost use lib.Seq.{sets};
-ghost use Rattle.log.specs.Log.{checkCarried, checkNumber, checkOf, first, writesFrom};
-ghost use Rattle.refusal.specs.Refusal.{answerNumber, answerCarried};
+ghost use Rattle.deck.specs.Player.{fresh, openOf, standingOf, movedOn, playAnswer, playOf, seekAnswer, seekOf, memorySize, slotPlace, slotOf, setAnswer, setOf, clearAnswer, clearOf, goToAnswer, goToOf, turnBy, withMarks, writesIn};
+ghost use Rattle.deck.specs.declared.Player.{Player};
+ghost use Rattle.log.specs.Log.{edition1, logAnswer};
+ghost use Rattle.marks.specs.Marks.{marksSet, lowestFree};
+ghost use Rattle.refusal.specs.Refusal.{Tells};
 ghost use Rattle.vsu.specs.Core.{inRange};
-ghost use Rattle.player.specs.Walk.{Walkable};
-ghost use Rattle.player.specs.Marks.{marksSet, lowestFree};
-ghost use Rattle.player.specs.Player.{fresh, standingOf, turned, refusedTurn, openOf, movedOn, refusedPlay, playedOn, playedOut, playOf, playOut, seekOf, place, slotOf, marked, setOf, setMemory, setFreeOf, setFreeMemory, clearOf, recalled, goToOf, playNumber, playCarried, seekNumber, seekCarried, setNumber, setCarried, setFreeNumber, setFreeCarried, clearNumber, clearCarried, goToNumber, goToCarried};
+ghost use Rattle.player.specs.Walk.{placedAt, startFor, Walkable, Recallable};
 
-pub struct Player {
-    pub unit: Vsu,
-    pub cycle: u32,
-    pub applied: u32,
-    pub marks: u16,
-}
-
-// The record after a call, and how it ended.
-pub struct Turn {
-    pub player: Player,
-    pub answer: Answer,
-}
-
-// The same of a play, with the number of its frames.
-pub struct Played {
-    pub player: Player,
-    pub frames: u32,
-    pub answer: Answer,
-}
-
-fn turned(p: Player) -> Turn
-    ensures { λ r. ⌜ r ≡ turned p ⌝ }
+fn turn(p: Player, answer: Answer) -> Turn
+    ensures { λ r. ⌜ r ≡ record { player = p; answer = answer } ⌝ }
 {
     Turn {
         player: p,
-        answer: Answer::Accepted,
-    }
-}
-
-fn refused(p: Player, why: Refusal) -> Turn
-    ensures { λ r. ⌜ r ≡ refusedTurn p why ⌝ }
-{
-    Turn {
-        player: p,
-        answer: Answer::Refused(why),
+        answer: answer,
     }
 }
 
@@ -67,6 +48,40 @@ fn fresh() -> Player
         applied: 0,
         marks: 0,
     }
+}
+
+// A record is taken apart and put together by these alone: where a function does it in its midst, the prover takes many times as long.
+
+fn unit_of(p: Player) -> Vsu
+    ensures { λ r. ⌜ r ≡ p .unit ⌝ }
+{
+    p.unit
+}
+
+fn with_marks(p: Player, marks: u16) -> Player
+    ensures { λ r. ⌜ r ≡ withMarks p marks ⌝ }
+{
+    let mut q = p;
+    q.marks = marks;
+    q
+}
+
+// The record at another place of the log, with its marks.
+fn placed_at(p: Player, unit: Vsu, cycle: u32, applied: u32) -> Player
+    ensures { λ r. ⌜ r ≡ placedAt p unit cycle applied ⌝ }
+{
+    let mut q = p;
+    q.unit = unit;
+    q.cycle = cycle;
+    q.applied = applied;
+    q
+}
+
+fn walked(p: Player, w: Walked, cycle: u32) -> Player
+    ensures { λ r. ⌜ r ≡ placedAt p (w .unit) cycle (w .applied) ⌝ }
+{
+    let u = w.unit;
+    placed_at(p, u, cycle, w.applied)
 }
 
 // How many marks are set.
@@ -83,21 +98,23 @@ pub fn lowest_free(p: Player) -> u32
     marks::lowest_free(p.marks)
 }
 
+// The record that a call makes of p, where it is accepted; else p.
+fn turn_by(a: Answer, p: Player, q: Player) -> Turn
+    ensures { λ r. ⌜ r ≡ turnBy a p q ⌝ }
+{
+    if rows::is_accepted(a) {
+        return turn(q, a);
+    }
+    turn(p, a)
+}
+
 // Power-on, cycle 0, no marks; or 3 to 8.
 pub fn open(log: &[u8]) -> Turn
-    ensures { λ r. ⌜ r ≡ openOf (now (log .entry)) ⌝ }
-    ensures { λ r. ⌜ answerNumber (r .answer) ≡ checkNumber first (now (log .entry)) ⌝ }
-    ensures { λ r. ⌜ answerCarried (r .answer) ≡ checkCarried first (now (log .entry)) ⌝ }
+    ensures { λ r. ⌜ (r ≡ openOf (now (log .entry))) × Tells (r .answer) (logAnswer edition1 (now (log .entry))) ⌝ }
 {
     let c = log::check_log(log);
     let p = fresh();
-    match c {
-        Checked::Log {
-            count: _,
-            cycles: _,
-        } => turned(p),
-        Checked::Refused(why) => refused(p, why),
-    }
+    turn_by(rows::answer_of(c), p, p)
 }
 
 // Log 3 to 8, record 1 then 13; or the number of entries and L.
@@ -105,266 +122,200 @@ fn standing(p: Player, log: &[u8]) -> Checked
     ensures { λ r. ⌜ r ≡ standingOf p (now (log .entry)) ⌝ }
 {
     let c = log::check_log(log);
-    match c {
-        Checked::Log { count, cycles } => {
-            let u = p.unit;
-            if !core::in_range(u) {
-                return Checked::Refused(Refusal::State);
-            }
-            if (p.cycle > cycles) | !log::stands_at(log, count, p.cycle, p.applied) {
-                return Checked::Refused(Refusal::Place);
-            }
-            Checked::Log {
-                count: count,
-                cycles: cycles,
-            }
-        }
-        Checked::Refused(why) => Checked::Refused(why),
-    }
+    let c = rows::row(c, !core::in_range(unit_of(p)), Refusal::State);
+    rows::row(
+        c,
+        rows::is_misplaced(c, log, p.cycle, p.applied),
+        Refusal::Place,
+    )
 }
 
-fn refused_play(p: Player, why: Refusal) -> Played
-    ensures { λ r. ⌜ r ≡ refusedPlay p why ⌝ }
+fn played(p: Player, frames: u32, answer: Answer) -> Played
+    ensures { λ r. ⌜ r ≡ record { player = p; frames = frames; answer = answer } ⌝ }
 {
     Played {
         player: p,
-        frames: 0,
-        answer: Answer::Refused(why),
-    }
-}
-
-// The play itself, where it does not go beyond L: 2.
-fn play_on(p: Player, n: u32, log: &[u8], count: u32, out: &mut [i16]) -> Played
-    requires { ⌜ (Walkable (now log) count (p .unit) (p .cycle) (p .applied) (p .cycle + n)) × (p .cycle + n < 2 ^ 32) ⌝ }
-    ensures { λ r. ⌜ r ≡ playedOn (writesFrom first (now (log .entry)) count 0) p n (length (now (out .entry))) ⌝ }
-    ensures { λ _. ⌜ now (out .exit) ≡ playedOut (writesFrom first (now (log .entry)) count 0) p n (now (out .entry)) ⌝ }
-{
-    let u = p.unit;
-    let due = ((u.output as u64) + (n as u64)) / 480;
-    if due > (out.len() / 2) as u64 {
-        return refused_play(p, Refusal::Room);
-    }
-    let target = p.cycle + n;
-    let w = walk::run_to(u, p.cycle, p.applied, target, log, count, out);
-    let next = w.unit;
-    let mut q = p;
-    q.unit = next;
-    q.cycle = target;
-    q.applied = w.applied;
-    Played {
-        player: q,
-        frames: due as u32,
-        answer: Answer::Accepted,
+        frames: frames,
+        answer: answer,
     }
 }
 
 // n cycles on, their frames at the front of `out`: 3 to 8, 1, 13, 12, 2.
 pub fn play(p: Player, n: u32, log: &[u8], out: &mut [i16]) -> Played
-    ensures { λ r. ⌜ r ≡ playOf p n (now (log .entry)) (length (now (out .entry))) ⌝ }
-    ensures { λ r. ⌜ answerNumber (r .answer) ≡ playNumber p n (now (log .entry)) (length (now (out .entry))) ⌝ }
-    ensures { λ r. ⌜ answerCarried (r .answer) ≡ playCarried p n (now (log .entry)) (length (now (out .entry))) ⌝ }
-    ensures { λ _. ⌜ now (out .exit) ≡ playOut p n (now (log .entry)) (now (out .entry)) ⌝ }
+    ensures { λ r. ⌜ (r ≡ playOf p n (now (log .entry)) (now (out .entry)) .played) × (now (out .exit) ≡ playOf p n (now (log .entry)) (now (out .entry)) .out) × Tells (r .answer) (playAnswer p n (now (log .entry)) (length (now (out .entry)))) ⌝ }
 {
     let c = standing(p, log);
-    match c {
-        Checked::Log { count, cycles } => {
-            if (p.cycle as u64) + (n as u64) > (cycles as u64) {
-                return refused_play(p, Refusal::BeyondEnd);
-            }
-            play_on(p, n, log, count, out)
-        }
-        Checked::Refused(why) => refused_play(p, why),
+    let target = (p.cycle as u64) + (n as u64);
+    let c = rows::row(c, rows::is_past(c, target), Refusal::BeyondEnd);
+    let u = unit_of(p);
+    let due = core::frames_due(u, n);
+    let c = rows::row(c, due > (out.len() / 2) as u64, Refusal::Room);
+    if rows::stops(c) {
+        return played(p, 0, rows::answer_of(c));
     }
+    let to = target as u32;
+    let w = walk::run_to(u, p.cycle, p.applied, to, log, rows::count_of(c), out);
+    played(walked(p, w, to), due as u32, Answer::Accepted)
 }
 
 // The record at a cycle that is not earlier.
 fn on_to(p: Player, target: u32, log: &[u8], count: u32) -> Player
     requires { ⌜ Walkable (now log) count (p .unit) (p .cycle) (p .applied) target ⌝ }
-    ensures { λ r. ⌜ r ≡ movedOn (writesFrom first (now (log .entry)) count 0) p (target - p .cycle) ⌝ }
+    ensures { λ r. ⌜ r ≡ movedOn (writesIn (now (log .entry))) p (target - p .cycle) ⌝ }
 {
-    let u = p.unit;
-    let w = walk::skip_to(u, p.cycle, p.applied, target, log, count);
-    let next = w.unit;
-    let mut q = p;
-    q.unit = next;
-    q.cycle = target;
-    q.applied = w.applied;
-    q
+    let w = walk::skip_to(unit_of(p), p.cycle, p.applied, target, log, count);
+    walked(p, w, target)
+}
+
+// Where a seek begins: at the present cycle, or at power-on when the target is earlier.
+fn start_for(p: Player, target: u32) -> Player
+    ensures { λ r. ⌜ r ≡ startFor p target ⌝ }
+{
+    if p.cycle <= target {
+        return p;
+    }
+    with_marks(fresh(), p.marks)
 }
 
 // To a cycle, without frames: 3 to 8, 1, 13, 12.
 pub fn seek(p: Player, target: u32, log: &[u8]) -> Turn
-    ensures { λ r. ⌜ r ≡ seekOf p target (now (log .entry)) ⌝ }
-    ensures { λ r. ⌜ answerNumber (r .answer) ≡ seekNumber p target (now (log .entry)) ⌝ }
-    ensures { λ r. ⌜ answerCarried (r .answer) ≡ seekCarried p target (now (log .entry)) ⌝ }
+    ensures { λ r. ⌜ (r ≡ seekOf p target (now (log .entry))) × Tells (r .answer) (seekAnswer p target (now (log .entry))) ⌝ }
 {
     let c = standing(p, log);
-    match c {
-        Checked::Log { count, cycles } => {
-            if target > cycles {
-                return refused(p, Refusal::BeyondEnd);
-            }
-            if p.cycle <= target {
-                return turned(on_to(p, target, log, count));
-            }
-            let mut q = fresh();
-            q.marks = p.marks;
-            turned(on_to(q, target, log, count))
-        }
-        Checked::Refused(why) => refused(p, why),
+    let c = rows::row(c, rows::is_past(c, target as u64), Refusal::BeyondEnd);
+    if rows::stops(c) {
+        return turn(p, rows::answer_of(c));
     }
+    let q = on_to(start_for(p, target), target, log, rows::count_of(c));
+    turn(q, Answer::Accepted)
 }
 
-fn place_of(slot: u32) -> usize
+fn slot_place(slot: u32) -> usize
     requires { ⌜ slot ≤ 15 ⌝ }
-    ensures { λ r. ⌜ r ≡ place slot ⌝ }
+    ensures { λ r. ⌜ r ≡ slotPlace slot ⌝ }
 {
-    428 * (slot as usize)
+    SLOT_SIZE * (slot as usize)
 }
 
 // The record's cycle, entries applied and image in a slot.
 fn keep(p: Player, slot: u32, memory: &mut [u8])
-    requires { ⌜ (slot ≤ 15) × ((6848 ≤ length (now memory)) × (inRange (p .unit) ≡ true)) ⌝ }
-    ensures { λ _. ⌜ now (memory .exit) ≡ sets (now (memory .entry)) (place slot) (slotOf p) ⌝ }
+    requires { ⌜ (slot ≤ 15) × ((memorySize ≤ length (now memory)) × (inRange (p .unit) ≡ true)) ⌝ }
+    ensures { λ _. ⌜ now (memory .exit) ≡ sets (now (memory .entry)) (slotPlace slot) (slotOf p) ⌝ }
 {
-    let at = place_of(slot);
+    let at = slot_place(slot);
     little::put(memory, at, little::Width::U32, p.cycle);
-    little::put(memory, at + 4, little::Width::U32, p.applied);
-    let u = p.unit;
-    let from = at + 8;
-    image::write_image(u, &mut memory[from..]);
+    little::put(memory, at + APPLIED_PLACE, little::Width::U32, p.applied);
+    let from = at + IMAGE_PLACE;
+    image::write_image(unit_of(p), &mut memory[from..]);
 }
 
-fn marked(p: Player, slot: u32) -> Player
-    ensures { λ r. ⌜ r ≡ marked p slot ⌝ }
+// A mark in a slot: 3 to 8, 1, 13, 2, then `above` where there is no such slot.
+fn set_at(p: Player, slot: u32, above: Refusal, log: &[u8], memory: &mut [u8]) -> Turn
+    ensures { λ r. ⌜ (r ≡ setOf above p slot (now (log .entry)) (now (memory .entry)) .turn) × (now (memory .exit) ≡ setOf above p slot (now (log .entry)) (now (memory .entry)) .memory) ⌝ }
 {
-    let mut q = p;
-    q.marks = marks::with_mark(p.marks, slot);
-    q
+    let c = standing(p, log);
+    let c = rows::row(c, memory.len() < MEMORY_SIZE, Refusal::Room);
+    let c = rows::row(c, slot > 15, above);
+    if rows::stops(c) {
+        return turn(p, rows::answer_of(c));
+    }
+    keep(p, slot, memory);
+    turn(
+        with_marks(p, marks::with_mark(p.marks, slot)),
+        Answer::Accepted,
+    )
 }
 
 // A mark in the slot named: 3 to 8, 1, 13, 2, 14.
 pub fn set_mark(p: Player, slot: u32, log: &[u8], memory: &mut [u8]) -> Turn
-    ensures { λ r. ⌜ r ≡ setOf p slot (now (log .entry)) (length (now (memory .entry))) ⌝ }
-    ensures { λ r. ⌜ answerNumber (r .answer) ≡ setNumber p slot (now (log .entry)) (length (now (memory .entry))) ⌝ }
-    ensures { λ r. ⌜ answerCarried (r .answer) ≡ setCarried p slot (now (log .entry)) (length (now (memory .entry))) ⌝ }
-    ensures { λ _. ⌜ now (memory .exit) ≡ setMemory p slot (now (log .entry)) (now (memory .entry)) ⌝ }
+    ensures { λ r. ⌜ (r ≡ setOf Refusal.MarkNumber p slot (now (log .entry)) (now (memory .entry)) .turn) × (now (memory .exit) ≡ setOf Refusal.MarkNumber p slot (now (log .entry)) (now (memory .entry)) .memory) × Tells (r .answer) (setAnswer Refusal.MarkNumber p slot (now (log .entry)) (length (now (memory .entry)))) ⌝ }
 {
-    let c = standing(p, log);
-    match c {
-        Checked::Log {
-            count: _,
-            cycles: _,
-        } => {
-            if memory.len() < 6848 {
-                return refused(p, Refusal::Room);
-            }
-            if slot > 15 {
-                return refused(p, Refusal::MarkNumber);
-            }
-            keep(p, slot, memory);
-            turned(marked(p, slot))
-        }
-        Checked::Refused(why) => refused(p, why),
-    }
+    set_at(p, slot, Refusal::MarkNumber, log, memory)
 }
 
 // A mark in the lowest free slot: 3 to 8, 1, 13, 2, 16.
 pub fn set_free(p: Player, log: &[u8], memory: &mut [u8]) -> Turn
-    ensures { λ r. ⌜ r ≡ setFreeOf p (now (log .entry)) (length (now (memory .entry))) ⌝ }
-    ensures { λ r. ⌜ answerNumber (r .answer) ≡ setFreeNumber p (now (log .entry)) (length (now (memory .entry))) ⌝ }
-    ensures { λ r. ⌜ answerCarried (r .answer) ≡ setFreeCarried p (now (log .entry)) (length (now (memory .entry))) ⌝ }
-    ensures { λ _. ⌜ now (memory .exit) ≡ setFreeMemory p (now (log .entry)) (now (memory .entry)) ⌝ }
+    ensures { λ r. ⌜ (r ≡ setOf Refusal.MarksFull p (lowestFree (p .marks)) (now (log .entry)) (now (memory .entry)) .turn) × (now (memory .exit) ≡ setOf Refusal.MarksFull p (lowestFree (p .marks)) (now (log .entry)) (now (memory .entry)) .memory) × Tells (r .answer) (setAnswer Refusal.MarksFull p (lowestFree (p .marks)) (now (log .entry)) (length (now (memory .entry)))) ⌝ }
 {
-    let c = standing(p, log);
-    match c {
-        Checked::Log {
-            count: _,
-            cycles: _,
-        } => {
-            if memory.len() < 6848 {
-                return refused(p, Refusal::Room);
-            }
-            let slot = marks::lowest_free(p.marks);
-            if slot > 15 {
-                return refused(p, Refusal::MarksFull);
-            }
-            keep(p, slot, memory);
-            turned(marked(p, slot))
-        }
-        Checked::Refused(why) => refused(p, why),
+    set_at(
+        p,
+        marks::lowest_free(p.marks),
+        Refusal::MarksFull,
+        log,
+        memory,
+    )
+}
+
+// 1, then 14, 15, by what they ask of a record.
+fn clear_answer(ranged: bool, marks: u16, slot: u32) -> Answer
+    ensures { λ r. ⌜ ((p : Player) → ranged ≡ inRange (p .unit) → marks ≡ p .marks → r ≡ clearAnswer p slot) ⌝ }
+{
+    if !ranged {
+        return Answer::Refused(Refusal::State);
     }
+    if slot > 15 {
+        return Answer::Refused(Refusal::MarkNumber);
+    }
+    if !marks::is_set(marks, slot) {
+        return Answer::Refused(Refusal::MarkUnset);
+    }
+    Answer::Accepted
 }
 
 // A mark cleared: 1, 14, 15.
 pub fn clear_mark(p: Player, slot: u32) -> Turn
-    ensures { λ r. ⌜ r ≡ clearOf p slot ⌝ }
-    ensures { λ r. ⌜ answerNumber (r .answer) ≡ clearNumber p slot ⌝ }
-    ensures { λ r. ⌜ answerCarried (r .answer) ≡ clearCarried p slot ⌝ }
+    ensures { λ r. ⌜ (r ≡ clearOf p slot) × Tells (r .answer) (clearAnswer p slot) ⌝ }
 {
-    let u = p.unit;
-    if !core::in_range(u) {
-        return refused(p, Refusal::State);
-    }
-    if slot > 15 {
-        return refused(p, Refusal::MarkNumber);
-    }
-    if !marks::is_set(p.marks, slot) {
-        return refused(p, Refusal::MarkUnset);
-    }
-    let mut q = p;
-    q.marks = marks::without_mark(p.marks, slot);
-    turned(q)
+    let a = clear_answer(core::in_range(unit_of(p)), p.marks, slot);
+    turn_by(a, p, with_marks(p, marks::without_mark(p.marks, slot)))
 }
 
-// What a slot holds: 10, 11, 13.
-fn recall(p: Player, slot: u32, log: &[u8], count: u32, cycles: u32, memory: &[u8]) -> Turn
-    requires { ⌜ (slot ≤ 15) × ((6848 ≤ length (now memory)) × (checkOf first (now log) ≡ Checked.Log count cycles)) ⌝ }
-    ensures { λ r. ⌜ r ≡ recalled p slot (now (log .entry)) count cycles (now (memory .entry)) ⌝ }
+fn answer_in(l: Loaded) -> Answer
+    ensures { λ r. ⌜ r ≡ l .answer ⌝ }
 {
-    let at = place_of(slot);
+    l.answer
+}
+
+fn state_in(l: Loaded) -> Vsu
+    ensures { λ r. ⌜ r ≡ l .state ⌝ }
+{
+    l.state
+}
+
+// What a set slot holds: 10, 11, 13.
+fn recall(p: Player, slot: u32, log: &[u8], c: Checked, memory: &[u8]) -> Turn
+    requires { ⌜ Recallable p slot (now log) c (now memory) ⌝ }
+    ensures { λ r. ⌜ r ≡ goToOf p slot (now (log .entry)) (now (memory .entry)) ⌝ }
+{
+    let at = slot_place(slot);
     let cycle = little::u32_at(memory, at);
-    let applied = little::u32_at(memory, at + 4);
-    let from = at + 8;
-    let to = at + 428;
+    let applied = little::u32_at(memory, at + APPLIED_PLACE);
+    let from = at + IMAGE_PLACE;
+    let to = at + SLOT_SIZE;
     let l = image::read_image(&memory[from..to]);
-    let a = l.answer;
-    match a {
-        Answer::Refused(why) => refused(p, why),
-        Answer::Accepted => {
-            if (cycle > cycles) | !log::stands_at(log, count, cycle, applied) {
-                return refused(p, Refusal::Place);
-            }
-            let u = l.state;
-            let mut q = p;
-            q.unit = u;
-            q.cycle = cycle;
-            q.applied = applied;
-            turned(q)
-        }
-    }
+    let c = rows::answered(c, answer_in(l));
+    let c = rows::row(
+        c,
+        rows::is_misplaced(c, log, cycle, applied),
+        Refusal::Place,
+    );
+    turn_by(
+        rows::answer_of(c),
+        p,
+        placed_at(p, state_in(l), cycle, applied),
+    )
 }
 
 // To a mark: 3 to 8, 1, 13, 2, 14, 15, then the slot's 10, 11, 13.
 pub fn go_to(p: Player, slot: u32, log: &[u8], memory: &[u8]) -> Turn
-    ensures { λ r. ⌜ r ≡ goToOf p slot (now (log .entry)) (now (memory .entry)) ⌝ }
-    ensures { λ r. ⌜ answerNumber (r .answer) ≡ goToNumber p slot (now (log .entry)) (now (memory .entry)) ⌝ }
-    ensures { λ r. ⌜ answerCarried (r .answer) ≡ goToCarried p slot (now (log .entry)) (now (memory .entry)) ⌝ }
+    ensures { λ r. ⌜ (r ≡ goToOf p slot (now (log .entry)) (now (memory .entry))) × Tells (r .answer) (goToAnswer p slot (now (log .entry)) (now (memory .entry))) ⌝ }
 {
     let c = standing(p, log);
-    match c {
-        Checked::Log { count, cycles } => {
-            if memory.len() < 6848 {
-                return refused(p, Refusal::Room);
-            }
-            if slot > 15 {
-                return refused(p, Refusal::MarkNumber);
-            }
-            if !marks::is_set(p.marks, slot) {
-                return refused(p, Refusal::MarkUnset);
-            }
-            recall(p, slot, log, count, cycles, memory)
-        }
-        Checked::Refused(why) => refused(p, why),
+    let c = rows::row(c, memory.len() < MEMORY_SIZE, Refusal::Room);
+    let c = rows::row(c, slot > 15, Refusal::MarkNumber);
+    let c = rows::row(c, !marks::is_set(p.marks, slot), Refusal::MarkUnset);
+    if rows::stops(c) {
+        return turn(p, rows::answer_of(c));
     }
+    recall(p, slot, log, c, memory)
 }

@@ -2,14 +2,13 @@
 use vsu::core;
 use vsu::core::Vsu;
 ghost use mathlib.Core.Path.{_≡_};
-ghost use mathlib.Core.Bool.{true};
 ghost use mathlib.Core.List.{_++_};
 ghost use Prim.Native.Nat.{_*_, _-_, _≤_};
 ghost use lib.ListN.{drop, length};
-ghost use Rattle.log.specs.Log.{checkOf, first, writesFrom, dueBefore};
-ghost use Rattle.log.specs.declared.Checked.the-variants as checked;
-ghost use Rattle.vsu.specs.Core.{inRange, framesDue, sides};
-ghost use Rattle.player.specs.Walk.{runOn, framesOn, nextOf, Walkable};
+ghost use Rattle.log.specs.Log.{edition1, writesFrom, dueBefore};
+ghost use Rattle.vsu.specs.Core.{advanceOf, framesDue, runOf, sides, writeOf};
+ghost use Rattle.deck.specs.Unbroken.{runOn, framesOn};
+ghost use Rattle.player.specs.Walk.{nextOf, Walkable};
 
 // Where a walk has come to.
 pub struct Walked {
@@ -30,6 +29,29 @@ fn next_due(log: &[u8], count: u32, applied: u32, target: u32) -> u32
     target
 }
 
+// The unit's own calls, on states in range: none is refused.
+
+fn written(u: Vsu, address: u16, byte: u8) -> Vsu
+    ensures { λ r. ⌜ r ≡ writeOf address byte u .state ⌝ }
+{
+    let m = core::write(u, address as u32, byte);
+    m.state
+}
+
+fn advanced(u: Vsu, n: u32) -> Vsu
+    ensures { λ r. ⌜ r ≡ advanceOf n u .state ⌝ }
+{
+    let m = core::advance(u, n);
+    m.state
+}
+
+fn ran(u: Vsu, n: u32, out: &mut [i16]) -> Vsu
+    ensures { λ r. ⌜ (r ≡ runOf n u (now (out .entry)) .ran .state) × (now (out .exit) ≡ runOf n u (now (out .entry)) .out) ⌝ }
+{
+    let m = core::run(u, n, out);
+    m.state
+}
+
 // On to the target without frames.
 pub(crate) fn skip_to(
     u: Vsu,
@@ -40,8 +62,8 @@ pub(crate) fn skip_to(
     count: u32,
 ) -> Walked
     requires { ⌜ Walkable (now log) count u start applied target ⌝ }
-    ensures { λ r. ⌜ r .unit ≡ runOn (writesFrom first (now (log .entry)) count 0) start u (target - start) ⌝ }
-    ensures { λ r. ⌜ r .applied ≡ dueBefore (writesFrom first (now (log .entry)) count 0) target ⌝ }
+    ensures { λ r. ⌜ r .unit ≡ runOn (writesFrom edition1 (now (log .entry)) count 0) start u (target - start) ⌝ }
+    ensures { λ r. ⌜ r .applied ≡ dueBefore (writesFrom edition1 (now (log .entry)) count 0) target ⌝ }
 {
     let mut unit = u;
     let mut k = applied;
@@ -50,13 +72,10 @@ pub(crate) fn skip_to(
         let due = next_due(log, count, k, target);
         if due <= cycle {
             let w = log::write_at(log, k);
-            let next = core::set_u8(unit, w.address as u32, w.byte);
-            unit = next;
+            unit = written(unit, w.address, w.byte);
             k += 1;
         } else {
-            let m = core::advance(unit, due - cycle);
-            let next = m.state;
-            unit = next;
+            unit = advanced(unit, due - cycle);
             cycle = due;
         }
     }
@@ -77,9 +96,9 @@ pub(crate) fn run_to(
     out: &mut [i16],
 ) -> Walked
     requires { ⌜ (Walkable (now log) count u start applied target) × (framesDue u (target - start) * 2 ≤ length (now out)) ⌝ }
-    ensures { λ r. ⌜ r .unit ≡ runOn (writesFrom first (now (log .entry)) count 0) start u (target - start) ⌝ }
-    ensures { λ r. ⌜ r .applied ≡ dueBefore (writesFrom first (now (log .entry)) count 0) target ⌝ }
-    ensures { λ _. ⌜ now (out .exit) ≡ sides (framesOn (writesFrom first (now (log .entry)) count 0) start u (target - start)) ++ drop (framesDue u (target - start) * 2) (now (out .entry)) ⌝ }
+    ensures { λ r. ⌜ r .unit ≡ runOn (writesFrom edition1 (now (log .entry)) count 0) start u (target - start) ⌝ }
+    ensures { λ r. ⌜ r .applied ≡ dueBefore (writesFrom edition1 (now (log .entry)) count 0) target ⌝ }
+    ensures { λ _. ⌜ now (out .exit) ≡ sides (framesOn (writesFrom edition1 (now (log .entry)) count 0) start u (target - start)) ++ drop (framesDue u (target - start) * 2) (now (out .entry)) ⌝ }
 {
     let mut unit = u;
     let mut k = applied;
@@ -89,14 +108,12 @@ pub(crate) fn run_to(
         let due = next_due(log, count, k, target);
         if due <= cycle {
             let w = log::write_at(log, k);
-            let next = core::set_u8(unit, w.address as u32, w.byte);
-            unit = next;
+            unit = written(unit, w.address, w.byte);
             k += 1;
         } else {
-            let m = core::run(unit, due - cycle, &mut out[at..]);
-            let next = m.state;
-            unit = next;
-            at += 2 * (m.frames as usize);
+            let made = core::frames_due(unit, due - cycle);
+            unit = ran(unit, due - cycle, &mut out[at..]);
+            at += 2 * (made as usize);
             cycle = due;
         }
     }

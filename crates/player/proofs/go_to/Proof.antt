@@ -1,6 +1,5 @@
+use denote.Ref.{now}
 use Rattle.player.proofs.PlayerLaws as laws
-use Rattle.player.proofs.ToldLaws as numbers
-use borrow.Author.Tests.{not-false, not-true}
 use borrow.Author.Needs.{needs}
 use Rattle.player.proofs.go_to.Statement.{statement}
 use Rattle.player.proofs.go_to.Tie as tie
@@ -8,60 +7,48 @@ use Rattle.player.proofs.go_to.Tie as tie
 standing-requires : tie.Need-standing-requires
 standing-requires c κs = search needs
 
-enum-known-c : tie.Need-enum-known-c
-enum-known-c c = search needs
+row-requires : tie.Need-row-requires
+row-requires c κs = search needs
 
-refused-requires : tie.Need-refused-requires
-refused-requires c κs = search needs
-
-returns : tie.Need-returns
-returns c = numbers.go-to-numbered _ _ _ _ (laws.go-room _ _ _ _ (c .before .before .before .before .before .standing .ensures) (c .before .before .before .c .given .1) (c .before .if1 .taken) (c .refused .ensures))
-
-refused-requires-2 : tie.Need-refused-requires-2
-refused-requires-2 c κs = search needs
-
-returns-2 : tie.Need-returns-2
-returns-2 c = numbers.go-to-numbered _ _ _ _ (laws.go-number _ _ _ _ (c .before .before .before .before .before .before .standing .ensures) (c .before .before .before .before .c .given .1) (c .before .before .if1 .left) (c .before .if2 .taken) (c .refused2 .ensures))
+row-requires-2 : tie.Need-row-requires-2
+row-requires-2 c κs = search needs
 
 is-set-requires : tie.Need-is-set-requires
 is-set-requires c κs = search needs
 
-refused-requires-3 : tie.Need-refused-requires-3
-refused-requires-3 c κs = search needs
+row-requires-3 : tie.Need-row-requires-3
+row-requires-3 c κs = search needs
 
-returns-3 : tie.Need-returns-3
-returns-3 c = numbers.go-to-numbered _ _ _ _ (laws.go-unset _ _ _ _ (c .before .before .before .before .before .before .before .before .standing .ensures) (c .before .before .before .before .before .before .c .given .1) (c .before .before .before .before .if1 .left) (c .before .before .before .if2 .left) (c .before .before .is-set .ensures) (not-true _ (c .before .if3 .taken)) (c .refused3 .ensures))
+stops-requires : tie.Need-stops-requires
+stops-requires c κs = search needs
+
+answer-of-requires : tie.Need-answer-of-requires
+answer-of-requires c κs = search needs
+
+turn-requires : tie.Need-turn-requires
+turn-requires c κs = search needs
+
+returns : tie.Need-returns
+returns c = laws.go-stops (c .before .before .before .before .before .before .before .before .before .before .before .args .p) (c .before .before .before .before .before .before .before .before .before .before .before .args .slot) (now (c .before .before .before .before .before .before .before .before .before .before .before .args .log)) (now (c .before .before .before .before .before .before .before .before .before .before .before .args .memory)) (laws.go-rows (c .before .before .before .before .before .before .before .before .before .before .before .args .p) (c .before .before .before .before .before .before .before .before .before .before .before .args .slot) (now (c .before .before .before .before .before .before .before .before .before .before .before .args .log)) (now (c .before .before .before .before .before .before .before .before .before .before .before .args .memory)) (c .before .before .before .before .before .before .before .before .standing .ensures) (c .before .before .before .before .before .before .before .row .ensures) (c .before .before .before .before .before .before .row2 .ensures) (c .before .before .before .before .before .is-set .ensures) (c .before .before .before .before .row3 .ensures)) (c .before .before .before .stops .ensures) (c .before .before .if1 .taken) (c .before .answer-of .ensures) (c .turn .ensures)
 
 recall-requires : tie.Need-recall-requires
-recall-requires c κs = (c .before .before .if2 .left, (c .before .before .before .if1 .left, laws.stands-by _ _ _ _ (c .before .before .before .before .before .before .before .standing .ensures) (c .before .before .before .before .before .c .given .1) .accepted))
+recall-requires c κs = laws.go-on (c .before .before .before .before .before .before .before .before .before .args .p) (c .before .before .before .before .before .before .before .before .before .args .slot) (now (c .before .before .before .before .before .before .before .before .before .args .log)) (now (c .before .before .before .before .before .before .before .before .before .args .memory)) (laws.go-rows (c .before .before .before .before .before .before .before .before .before .args .p) (c .before .before .before .before .before .before .before .before .before .args .slot) (now (c .before .before .before .before .before .before .before .before .before .args .log)) (now (c .before .before .before .before .before .before .before .before .before .args .memory)) (c .before .before .before .before .before .before .standing .ensures) (c .before .before .before .before .before .row .ensures) (c .before .before .before .before .row2 .ensures) (c .before .before .before .is-set .ensures) (c .before .before .row3 .ensures)) (c .before .stops .ensures) (c .if1 .left)
 
-enum-known-c-2 : tie.Need-enum-known-c-2
-enum-known-c-2 c = search needs
-
-refused-requires-4 : tie.Need-refused-requires-4
-refused-requires-4 c κs = search needs
-
-returns-4 : tie.Need-returns-4
-returns-4 c = numbers.go-to-numbered _ _ _ _ (laws.went _ _ _ _ (c .before .before .before .before .before .before .before .before .standing .ensures) (c .before .before .before .before .before .before .c .given .1) (c .before .before .before .before .if1 .left) (c .before .before .before .if2 .left) (c .before .before .is-set .ensures) (not-false _ (c .before .if3 .left)) (c .recall .ensures))
-
-returns-5 : tie.Need-returns-5
-returns-5 c = numbers.go-to-numbered _ _ _ _ (laws.go-log _ _ _ _ (c .before .before .before .before .standing .ensures) (c .before .before .c2 .given .1) (c .refused4 .ensures))
+returns-2 : tie.Need-returns-2
+returns-2 c = laws.tells-too _ _ _ (c .recall .ensures)
 
 pub go-to-spec : {M : Type 1} → statement M
 go-to-spec =
     tie.close
     (tie.spec
     standing-requires
-    enum-known-c
-    refused-requires
-    returns
-    refused-requires-2
-    returns-2
+    row-requires
+    row-requires-2
     is-set-requires
-    refused-requires-3
-    returns-3
+    row-requires-3
+    stops-requires
+    answer-of-requires
+    turn-requires
+    returns
     recall-requires
-    enum-known-c-2
-    refused-requires-4
-    returns-4
-    returns-5)
+    returns-2)

@@ -3,8 +3,8 @@ use borrow.Author.Needs.{needs}
 use Rattle.player.proofs.recall.Statement.{statement}
 use Rattle.player.proofs.recall.Tie as tie
 
-place-of-requires : tie.Need-place-of-requires
-place-of-requires c κs = search needs
+slot-place-requires : tie.Need-slot-place-requires
+slot-place-requires c κs = search needs
 
 u32-at-requires : tie.Need-u32-at-requires
 u32-at-requires c κs = search needs
@@ -33,38 +33,38 @@ part-read-image-end c = search needs
 read-image-requires : tie.Need-read-image-requires
 read-image-requires c κs = search needs
 
-enum-known-a : tie.Need-enum-known-a
-enum-known-a c = search needs
+answer-in-requires : tie.Need-answer-in-requires
+answer-in-requires c κs = search needs
 
-refused-requires : tie.Need-refused-requires
-refused-requires c κs = search needs
+answered-requires : tie.Need-answered-requires
+answered-requires c κs = search needs
 
-enum-told : tie.Need-enum-told
-enum-told c = search needs
+is-misplaced-requires : tie.Need-is-misplaced-requires
+is-misplaced-requires c κs = search needs
 
-stands-at-requires : tie.Need-stands-at-requires
-stands-at-requires c κs = search needs
+row-requires : tie.Need-row-requires
+row-requires c κs = search needs
 
-refused-requires-2 : tie.Need-refused-requires-2
-refused-requires-2 c κs = search needs
+answer-of-requires : tie.Need-answer-of-requires
+answer-of-requires c κs = search needs
+
+state-in-requires : tie.Need-state-in-requires
+state-in-requires c κs = search needs
+
+placed-at-requires : tie.Need-placed-at-requires
+placed-at-requires c κs = search needs
+
+turn-by-requires : tie.Need-turn-by-requires
+turn-by-requires c κs = search needs
 
 returns : tie.Need-returns
-returns c = laws.recall-place _ _ _ _ _ _ (c .before .before .before .before .before .before .before .before .before .place-of .ensures) (c .before .before .before .before .before .before .before .before .u32-at .ensures) (c .before .before .before .before .before .before .before .u32-at2 .ensures) (c .before .before .before .before .before .read-image .ensures .0) (c .before .before .before .enum-told .given .1) (c .before .before .before .before .before .before .before .before .before .before .before .before .pre .1 .1) (c .before .before .stands-at .ensures .1) (c .before .if1 .taken) (c .refused2 .ensures)
-
-turned-requires : tie.Need-turned-requires
-turned-requires c κs = search needs
-
-returns-2 : tie.Need-returns-2
-returns-2 c = laws.recall-image _ _ _ _ _ _ (c .before .before .before .before .before .before .before .before .place-of .ensures) (c .before .before .before .before .before .before .before .u32-at .ensures) (c .before .before .before .before .before .before .u32-at2 .ensures) (c .before .before .before .before .read-image .ensures .0) (c .before .before .a .given .1) (c .refused .ensures)
-
-returns-3 : tie.Need-returns-3
-returns-3 c = laws.recall-done _ _ _ _ _ _ (c .before .before .before .before .before .before .before .before .before .before .place-of .ensures) (c .before .before .before .before .before .before .before .before .before .u32-at .ensures) (c .before .before .before .before .before .before .before .before .u32-at2 .ensures) (c .before .before .before .before .before .before .read-image .ensures .0) (c .before .before .before .before .enum-told .given .1) (c .before .before .before .before .before .before .before .before .before .before .before .before .before .pre .1 .1) (c .before .before .before .stands-at .ensures .1) (c .before .before .if1 .left) (c .turned .ensures)
+returns c = laws.recalled _ _ _ _ (c .before .before .before .before .before .before .before .before .before .before .before .before .before .before .before .pre) (c .before .before .before .before .before .before .before .before .before .before .before .before .slot-place .ensures) (c .before .before .before .before .before .before .before .before .before .before .before .u32-at .ensures) (c .before .before .before .before .before .before .before .before .before .before .u32-at2 .ensures) (c .before .before .before .before .before .before .before .before .read-image .ensures .0) (c .before .before .before .before .before .before .before .answer-in .ensures) (c .before .before .before .before .before .before .answered .ensures) (c .before .before .before .before .before .is-misplaced .ensures) (c .before .before .before .before .row .ensures) (c .before .before .before .answer-of .ensures) (c .before .before .state-in .ensures) (c .before .placed-at .ensures) (c .turn-by .ensures)
 
 pub recall-spec : {M : Type 1} → statement M
 recall-spec =
     tie.close
     (tie.spec
-    place-of-requires
+    slot-place-requires
     u32-at-requires
     add-u32-at
     u32-at-requires-2
@@ -74,12 +74,12 @@ recall-spec =
     part-read-image-start
     part-read-image-end
     read-image-requires
-    enum-known-a
-    refused-requires
-    enum-told
-    stands-at-requires
-    refused-requires-2
-    returns
-    turned-requires
-    returns-2
-    returns-3)
+    answer-in-requires
+    answered-requires
+    is-misplaced-requires
+    row-requires
+    answer-of-requires
+    state-in-requires
+    placed-at-requires
+    turn-by-requires
+    returns)

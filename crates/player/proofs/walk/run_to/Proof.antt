@@ -1,10 +1,10 @@
-use Prim.Native.Nat.{_+_, _-_, _<_, _≤_}
-use mathlib.Core.Path.{_≡_, refl}
 use borrow.Author.Needs.{needs}
+use Rattle.player.proofs.WalkLaws as laws
+use Prim.Native.Nat.{_+_, _-_, _*_, _<_, _≤_}
+use mathlib.Core.Path.{_≡_, refl}
 use native.Mathlib.Omega.{arith}
 use denote.Ref.{now}
 use lib.ListN.{length}
-use Rattle.player.proofs.WalkLaws as laws
 use Rattle.player.proofs.walk.run_to.Statement.{statement}
 use Rattle.player.proofs.walk.run_to.Tie as tie
 
@@ -23,15 +23,12 @@ next-due-requires c κs = search needs
 write-at-requires : tie.Need-write-at-requires Inv-loop μ-loop
 write-at-requires c κs = search needs
 
-cast-set-u8 : tie.Need-cast-set-u8 Inv-loop μ-loop
-cast-set-u8 c = search needs
-
-set-u8-requires : tie.Need-set-u8-requires Inv-loop μ-loop
-set-u8-requires c κs = search needs
+written-requires : tie.Need-written-requires Inv-loop μ-loop
+written-requires c κs = search needs
 
 -- the entry that is due has not been applied yet
-left : (c : tie.After-set-u8 Inv-loop μ-loop) → (c .before .before .before .before .before .before .loop .k) < (c .before .before .before .before .before .before .before .before .args .count)
-left c = laws.log-left (now (c .before .before .before .before .before .before .before .before .args .log)) (c .before .before .before .before .before .before .before .before .args .count) (c .before .before .before .before .before .before .before .before .args .u) (c .before .before .before .before .before .before .before .before .args .start) (c .before .before .before .before .before .before .before .before .args .applied) (c .before .before .before .before .before .before .before .before .args .target) (c .before .before .before .before .before .before .before .before .pre .0) (c .before .before .before .before .before .before .loop .inv .walking) (c .before .before .before .before .next-due .ensures) (c .before .before .before .before .before .loop-test .taken) (c .before .before .before .if1 .taken)
+left : (c : tie.After-written Inv-loop μ-loop) → (c .before .before .before .before .before .loop .k) < (c .before .before .before .before .before .before .before .args .count)
+left c = laws.log-left (now (c .before .before .before .before .before .before .before .args .log)) (c .before .before .before .before .before .before .before .args .count) (c .before .before .before .before .before .before .before .args .u) (c .before .before .before .before .before .before .before .args .start) (c .before .before .before .before .before .before .before .args .applied) (c .before .before .before .before .before .before .before .args .target) (c .before .before .before .before .before .before .before .pre .0) (c .before .before .before .before .before .loop .inv .walking) (c .before .before .before .next-due .ensures) (c .before .before .before .before .loop-test .taken) (c .before .before .if1 .taken)
 
 add-k : tie.Need-add-k Inv-loop μ-loop
 add-k c = omega (arith, left c)
@@ -40,47 +37,51 @@ loop-less : tie.Need-loop-less Inv-loop μ-loop
 loop-less c = omega (arith, left c)
 
 loop-again : tie.Need-loop-again Inv-loop μ-loop
-loop-again c = rw (c .set-u8 .ensures) (laws.play-writes (laws.Log (now (c .before .before .before .before .before .before .before .before .args .log)) (c .before .before .before .before .before .before .before .before .args .count)) (c .before .before .before .before .before .before .before .before .args .u) (c .before .before .before .before .before .before .before .before .args .start) (c .before .before .before .before .before .before .before .before .args .target) (c .before .before .before .before .before .before .loop .inv) (laws.log-entry (now (c .before .before .before .before .before .before .before .before .args .log)) (c .before .before .before .before .before .before .before .before .args .count) (c .before .before .before .before .before .before .before .before .args .u) (c .before .before .before .before .before .before .before .before .args .start) (c .before .before .before .before .before .before .before .before .args .applied) (c .before .before .before .before .before .before .before .before .args .target) (c .before .before .before .before .before .before .before .before .pre .0) (c .before .before .before .before .before .before .loop .inv .walking) (c .before .before .before .before .next-due .ensures) (c .before .before .before .before .before .loop-test .taken) (c .before .before .before .if1 .taken) (c .before .before .write-at .ensures) (search needs)))
+loop-again c = rw (c .written .ensures, laws.written-by (laws.Log (now (c .before .before .before .before .before .before .before .args .log)) (c .before .before .before .before .before .before .before .args .count)) (c .before .before .before .before .before .before .before .args .u) (c .before .before .before .before .before .before .before .args .start) (c .before .before .before .before .before .before .before .args .target) (c .before .write-at .result) (c .before .before .before .before .before .loop .inv .walking) refl) (laws.play-writes (laws.Log (now (c .before .before .before .before .before .before .before .args .log)) (c .before .before .before .before .before .before .before .args .count)) (c .before .before .before .before .before .before .before .args .u) (c .before .before .before .before .before .before .before .args .start) (c .before .before .before .before .before .before .before .args .target) (c .before .before .before .before .before .loop .inv) (laws.log-entry (now (c .before .before .before .before .before .before .before .args .log)) (c .before .before .before .before .before .before .before .args .count) (c .before .before .before .before .before .before .before .args .u) (c .before .before .before .before .before .before .before .args .start) (c .before .before .before .before .before .before .before .args .applied) (c .before .before .before .before .before .before .before .args .target) (c .before .before .before .before .before .before .before .pre .0) (c .before .before .before .before .before .loop .inv .walking) (c .before .before .before .next-due .ensures) (c .before .before .before .before .loop-test .taken) (c .before .before .if1 .taken) (c .before .write-at .ensures) (search needs)))
 
-sub-run : tie.Need-sub-run Inv-loop μ-loop
-sub-run c = search needs
+sub-frames-due : tie.Need-sub-frames-due Inv-loop μ-loop
+sub-frames-due c = search needs
 
--- where cycles are run: the frames that are done lie within the buffer, which is as long as it was
-within : (c : tie.Else1 Inv-loop μ-loop) → ((c .before .before .before .loop .at) ≤ length (c .before .before .before .loop .out)) × (length (c .before .before .before .loop .out) ≡ length (now (c .before .before .before .before .before .args .out)))
+frames-due-requires : tie.Need-frames-due-requires Inv-loop μ-loop
+frames-due-requires c κs = search needs
+
+sub-ran : tie.Need-sub-ran Inv-loop μ-loop
+sub-ran c = search needs
+
+-- where cycles are run: the frames that are done lie within the buffer, which is as long as it was, and there is room for those of the run
+within : (c : tie.After-frames-due Inv-loop μ-loop) → ((c .before .before .before .before .loop .at) ≤ length (c .before .before .before .before .loop .out)) × ((length (c .before .before .before .before .loop .out) ≡ length (now (c .before .before .before .before .before .before .args .out))) × ((c .before .before .before .before .loop .at) + (c .frames-due .result) * 2 ≤ length (now (c .before .before .before .before .before .before .args .out))))
 within c =
-    let a = laws.play-within (laws.Log (now (c .before .before .before .before .before .args .log)) (c .before .before .before .before .before .args .count)) (c .before .before .before .before .before .args .u) (c .before .before .before .before .before .args .start) (c .before .before .before .before .before .args .target) (c .before .before .before .before .before .pre .0 .ranged) (now (c .before .before .before .before .before .args .out)) (c .before .before .before .before .before .pre .1) (c .before .before .before .loop .inv) in
-    let l = laws.play-long (laws.Log (now (c .before .before .before .before .before .args .log)) (c .before .before .before .before .before .args .count)) (c .before .before .before .before .before .args .u) (c .before .before .before .before .before .args .start) (c .before .before .before .before .before .args .target) (c .before .before .before .before .before .pre .0 .ranged) (now (c .before .before .before .before .before .args .out)) (c .before .before .before .before .before .pre .1) (c .before .before .before .loop .inv) in
-    (omega arith, l)
+    let a = laws.play-within (laws.Log (now (c .before .before .before .before .before .before .args .log)) (c .before .before .before .before .before .before .args .count)) (c .before .before .before .before .before .before .args .u) (c .before .before .before .before .before .before .args .start) (c .before .before .before .before .before .before .args .target) (c .before .before .before .before .before .before .pre .0 .ranged) (now (c .before .before .before .before .before .before .args .out)) (c .before .before .before .before .before .before .pre .1) (c .before .before .before .before .loop .inv) in
+    let l = laws.play-long (laws.Log (now (c .before .before .before .before .before .before .args .log)) (c .before .before .before .before .before .before .args .count)) (c .before .before .before .before .before .before .args .u) (c .before .before .before .before .before .before .args .start) (c .before .before .before .before .before .before .args .target) (c .before .before .before .before .before .before .pre .0 .ranged) (now (c .before .before .before .before .before .before .args .out)) (c .before .before .before .before .before .before .pre .1) (c .before .before .before .before .loop .inv) in
+    let m = laws.play-more (laws.Log (now (c .before .before .before .before .before .before .args .log)) (c .before .before .before .before .before .before .args .count)) (c .before .before .before .before .before .before .args .u) (c .before .before .before .before .before .before .args .start) (c .before .before .before .before .before .before .args .target) (c .before .before .before .before .before .before .pre .0 .ranged) (now (c .before .before .before .before .before .before .args .out)) (c .before .before .before .before .before .before .pre .1) (c .before .before .before .before .loop .inv) (laws.log-quiet (now (c .before .before .before .before .before .before .args .log)) (c .before .before .before .before .before .before .args .count) (c .before .before .before .before .before .before .args .u) (c .before .before .before .before .before .before .args .start) (c .before .before .before .before .before .before .args .applied) (c .before .before .before .before .before .before .args .target) (c .before .before .before .before .before .before .pre .0) (c .before .before .before .before .loop .inv .walking) (c .before .before .next-due .ensures) (c .before .if1 .left)) in
+    (omega arith, (l, rw (c .frames-due .ensures) m))
 
-mul-run : tie.Need-mul-run Inv-loop μ-loop
-mul-run c = omega (arith, within c .0, within c .1)
+mul-ran : tie.Need-mul-ran Inv-loop μ-loop
+mul-ran c = omega (arith, within c .0, within c .1 .0)
 
-sub-run-2 : tie.Need-sub-run-2 Inv-loop μ-loop
-sub-run-2 c = within c .0
+sub-ran-2 : tie.Need-sub-ran-2 Inv-loop μ-loop
+sub-ran-2 c = within c .0
 
-part-run-start : tie.Need-part-run-start Inv-loop μ-loop
-part-run-start c = within c .0
+part-ran-start : tie.Need-part-ran-start Inv-loop μ-loop
+part-ran-start c = within c .0
 
-part-run-end : tie.Need-part-run-end Inv-loop μ-loop
-part-run-end c = search needs
+part-ran-end : tie.Need-part-ran-end Inv-loop μ-loop
+part-ran-end c = search needs
 
-run-requires : tie.Need-run-requires Inv-loop μ-loop
-run-requires c κs = search needs
-
-cast-at : tie.Need-cast-at Inv-loop μ-loop
-cast-at c = search needs
+ran-requires : tie.Need-ran-requires Inv-loop μ-loop
+ran-requires c κs = search needs
 
 mul-at : tie.Need-mul-at Inv-loop μ-loop
-mul-at c = search needs
+mul-at c = omega (arith, within (c .before .before .before) .1 .0, within (c .before .before .before) .1 .1)
 
 add-at : tie.Need-add-at Inv-loop μ-loop
-add-at c = omega (arith, mul-run (c .before .before .before .before .before) .fits)
+add-at c = omega (arith, within (c .before .before .before) .1 .0, within (c .before .before .before) .1 .1)
 
 loop-less-2 : tie.Need-loop-less-2 Inv-loop μ-loop
 loop-less-2 c = omega arith
 
 loop-again-2 : tie.Need-loop-again-2 Inv-loop μ-loop
-loop-again-2 c = laws.play-runs (laws.Log (now (c .before .before .before .before .before .before .before .before .before .before .args .log)) (c .before .before .before .before .before .before .before .before .before .before .args .count)) (c .before .before .before .before .before .before .before .before .before .before .args .u) (c .before .before .before .before .before .before .before .before .before .before .args .start) (c .before .before .before .before .before .before .before .before .before .before .args .target) (c .before .before .before .before .before .before .before .before .before .before .pre .0 .ranged) (now (c .before .before .before .before .before .before .before .before .before .before .args .out)) (c .before .before .before .before .before .before .before .before .before .before .pre .1) (c .before .before .before .before .before .before .before .before .loop .inv) refl (laws.log-quiet (now (c .before .before .before .before .before .before .before .before .before .before .args .log)) (c .before .before .before .before .before .before .before .before .before .before .args .count) (c .before .before .before .before .before .before .before .before .before .before .args .u) (c .before .before .before .before .before .before .before .before .before .before .args .start) (c .before .before .before .before .before .before .before .before .before .before .args .applied) (c .before .before .before .before .before .before .before .before .before .before .args .target) (c .before .before .before .before .before .before .before .before .before .before .pre .0) (c .before .before .before .before .before .before .before .before .loop .inv .walking) (c .before .before .before .before .before .before .next-due .ensures) (c .before .before .before .before .before .if1 .left)) (c .before .before .before .run .ensures .0) (c .before .before .before .run .ensures .1 .1)
+loop-again-2 c = laws.play-runs (laws.Log (now (c .before .before .before .before .before .before .before .before .before .args .log)) (c .before .before .before .before .before .before .before .before .before .args .count)) (c .before .before .before .before .before .before .before .before .before .args .u) (c .before .before .before .before .before .before .before .before .before .args .start) (c .before .before .before .before .before .before .before .before .before .args .target) (c .before .before .before .before .before .before .before .before .before .pre .0 .ranged) (now (c .before .before .before .before .before .before .before .before .before .args .out)) (c .before .before .before .before .before .before .before .before .before .pre .1) (c .before .before .before .before .before .before .before .loop .inv) refl (laws.log-quiet (now (c .before .before .before .before .before .before .before .before .before .args .log)) (c .before .before .before .before .before .before .before .before .before .args .count) (c .before .before .before .before .before .before .before .before .before .args .u) (c .before .before .before .before .before .before .before .before .before .args .start) (c .before .before .before .before .before .before .before .before .before .args .applied) (c .before .before .before .before .before .before .before .before .before .args .target) (c .before .before .before .before .before .before .before .before .before .pre .0) (c .before .before .before .before .before .before .before .loop .inv .walking) (c .before .before .before .before .before .next-due .ensures) (c .before .before .before .before .if1 .left)) (c .before .ran .ensures .0) (c .before .ran .ensures .1) (c .before .before .before .frames-due .ensures)
 
 same-length : tie.Need-same-length Inv-loop μ-loop
 same-length c = laws.play-long (laws.Log (now (c .before .before .before .args .log)) (c .before .before .before .args .count)) (c .before .before .before .args .u) (c .before .before .before .args .start) (c .before .before .before .args .target) (c .before .before .before .pre .0 .ranged) (now (c .before .before .before .args .out)) (c .before .before .before .pre .1) (c .before .loop .inv)
@@ -99,18 +100,18 @@ run-to-spec =
     loop-holds
     next-due-requires
     write-at-requires
-    cast-set-u8
-    set-u8-requires
+    written-requires
     add-k
     loop-less
     loop-again
-    sub-run
-    mul-run
-    sub-run-2
-    part-run-start
-    part-run-end
-    run-requires
-    cast-at
+    sub-frames-due
+    frames-due-requires
+    sub-ran
+    mul-ran
+    sub-ran-2
+    part-ran-start
+    part-ran-end
+    ran-requires
     mul-at
     add-at
     loop-less-2

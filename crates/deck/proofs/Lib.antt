@@ -1,0 +1,3 @@
+pub mod UnbrokenLaws
+pub mod PlayerLaws
+pub mod Demand3
