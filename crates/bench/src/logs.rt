@@ -71,7 +71,7 @@ fn time(head: [u8; 16], bytes: &mut [u8]) {
 }
 
 // A log of at most 65,536 bytes: the prover runs out of stack on an array as long as a full log, 8,000,016 bytes.
-pub fn run(head: [u8; 16]) {
+pub(crate) fn run(head: [u8; 16]) {
     let mut space = io::large_buffer();
     let bytes: &mut [u8] = &mut space;
     time(head, bytes);

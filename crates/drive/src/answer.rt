@@ -2,131 +2,155 @@
 use crate::call::Call;
 use crate::output::labelled;
 use crate::seek;
-use player::Player;
-use player::Turn;
+use deck::Played;
+use deck::Player;
+use deck::Turn;
 use refusal::Answer;
 use refusal::Refusal;
 use report::sum;
 use report::text;
 
-// The record after a call, and where its line ends in the text.
-pub struct Said {
-    pub player: Player,
-    pub end: usize,
+// What a line tells in numbers: the record's, and a play's frames, the slot of a mark that is set, the sum of what was asked for.
+pub(crate) struct Numbers {
+    cycle: u32,
+    applied: u32,
+    marks: u32,
+    free: u32,
+    frames: u32,
+    slot: u32,
+    sum: u32,
 }
 
-// The record's words, behind the call's own.
-fn record(p: Player, text: &mut [u8], at: usize) -> Said {
-    let a = labelled(text, at, b" cycle ", p.cycle);
-    let b = labelled(text, a, b" applied ", p.applied);
-    let c = labelled(text, b, b" marks ", player::marks_set(p));
-    let d = labelled(text, c, b" free ", player::lowest_free(p));
-    let end = text::words(text, d, b"\n");
-    Said {
-        player: p,
-        end: end,
-    }
-}
-
-fn refused(p: Player, why: Refusal, text: &mut [u8]) -> Said {
-    let at = text::refused(text, 0, why);
-    record(p, text, at)
-}
-
-// The line of a call that says nothing but what it did.
-fn moved(t: Turn, did: &[u8], text: &mut [u8]) -> Said {
-    let p = t.player;
-    let a = t.answer;
-    match a {
-        Answer::Accepted => {
-            let at = text::words(text, 0, did);
-            record(p, text, at)
-        }
-        Answer::Refused(why) => refused(p, why, text),
-    }
-}
-
-fn set(t: Turn, slot: u32, text: &mut [u8]) -> Said {
-    let p = t.player;
-    let a = t.answer;
-    match a {
-        Answer::Accepted => {
-            let at = labelled(text, 0, b"set ", slot);
-            record(p, text, at)
-        }
-        Answer::Refused(why) => refused(p, why, text),
-    }
-}
-
-fn play(p: Player, n: u32, log: &[u8], sides: &mut [i16], text: &mut [u8]) -> Said {
-    let r = player::play(p, n, log, sides);
-    let q = r.player;
-    let a = r.answer;
-    match a {
-        Answer::Accepted => {
-            let b = labelled(text, 0, b"played ", r.frames);
-            let at = labelled(text, b, b" sum ", sum::of_frames(0, sides, r.frames));
-            record(q, text, at)
-        }
-        Answer::Refused(why) => refused(q, why, text),
-    }
-}
-
-fn image(p: Player, text: &mut [u8]) -> Said {
-    let mut bytes = [0u8; 420];
+fn picture(p: Player, image: &mut [u8]) -> Answer {
     let u = p.unit;
-    let a = image::write_image(u, &mut bytes);
-    match a {
-        Answer::Accepted => {
-            let b = text::words(text, 0, b"image ");
-            let c = text::hex(text, b, &bytes);
-            let end = text::words(text, c, b"\n");
-            Said {
-                player: p,
-                end: end,
-            }
-        }
-        Answer::Refused(why) => refused(p, why, text),
+    image::write_image(u, image)
+}
+
+// A call other than a play. One that is none leaves the record.
+fn turned(p: Player, call: Call, log: &[u8], memory: &mut [u8], image: &mut [u8]) -> Turn {
+    match call {
+        Call::Seek(target) => seek::seek(p, target, log),
+        Call::Set(slot) => player::set_mark(p, slot, log, memory),
+        Call::SetFree => player::set_free(p, log, memory),
+        Call::Clear(slot) => player::clear_mark(p, slot),
+        Call::GoTo(slot) => player::go_to(p, slot, log, memory),
+        Call::Image => Turn {
+            player: p,
+            answer: picture(p, image),
+        },
+        _ => Turn {
+            player: p,
+            answer: Answer::Accepted,
+        },
     }
 }
 
-fn memory_sum(p: Player, memory: &[u8], text: &mut [u8]) -> Said {
-    let at = labelled(text, 0, b"memory sum ", sum::of_bytes(memory));
-    let end = text::words(text, at, b"\n");
-    Said {
-        player: p,
-        end: end,
-    }
-}
-
-fn unknown(p: Player, text: &mut [u8]) -> Said {
-    let end = text::words(text, 0, b"unknown\n");
-    Said {
-        player: p,
-        end: end,
-    }
-}
-
-pub fn answer(
+pub(crate) fn done(
     p: Player,
     call: Call,
     log: &[u8],
     memory: &mut [u8],
     sides: &mut [i16],
-    text: &mut [u8],
-) -> Said {
-    match call {
-        Call::Play(n) => play(p, n, log, sides, text),
-        Call::Seek(target) => moved(seek::seek(p, target, log), b"sought", text),
-        Call::Set(slot) => set(player::set_mark(p, slot, log, memory), slot, text),
-        Call::SetFree => {
-            let slot = player::lowest_free(p);
-            set(player::set_free(p, log, memory), slot, text)
-        }
-        Call::Clear(slot) => moved(player::clear_mark(p, slot), b"cleared", text),
-        Call::GoTo(slot) => moved(player::go_to(p, slot, log, memory), b"went", text),
-        Call::Image => image(p, text),
-        Call::Memory => memory_sum(p, memory, text),
-        Call::Unknown => unknown(p, text),
+    image: &mut [u8],
+) -> Played {
+    if let Call::Play(n) = call {
+        return player::play(p, n, log, sides);
     }
+    let t = turned(p, call, log, memory, image);
+    let q = t.player;
+    let a = t.answer;
+    Played {
+        player: q,
+        frames: 0,
+        answer: a,
+    }
+}
+
+fn sum_of(call: Call, frames: u32, memory: &[u8], sides: &[i16]) -> u32 {
+    match call {
+        Call::Play(_) => sum::of_frames(0, sides, frames),
+        Call::Memory => sum::of_bytes(memory),
+        _ => 0,
+    }
+}
+
+// The slot that a set writes: the one that it names, or the lowest that is free.
+fn slot_of(call: Call, free: u32) -> u32 {
+    match call {
+        Call::Set(slot) => slot,
+        _ => free,
+    }
+}
+
+// After a call: the record, the frames that it made, the lowest slot that was free before, and what it wrote.
+pub(crate) fn told(
+    p: Player,
+    call: Call,
+    frames: u32,
+    free: u32,
+    memory: &[u8],
+    sides: &[i16],
+) -> Numbers {
+    Numbers {
+        cycle: p.cycle,
+        applied: p.applied,
+        marks: player::marks_set(p),
+        free: player::lowest_free(p),
+        frames: frames,
+        slot: slot_of(call, free),
+        sum: sum_of(call, frames, memory, sides),
+    }
+}
+
+// The record's words, behind the call's own.
+fn record(n: Numbers, text: &mut [u8], at: usize) -> usize {
+    let a = labelled(text, at, b" cycle ", n.cycle);
+    let b = labelled(text, a, b" applied ", n.applied);
+    let c = labelled(text, b, b" marks ", n.marks);
+    labelled(text, c, b" free ", n.free)
+}
+
+fn played(n: Numbers, text: &mut [u8]) -> usize {
+    let at = labelled(text, 0, b"played ", n.frames);
+    labelled(text, at, b" sum ", n.sum)
+}
+
+// A call that says nothing but what it did.
+fn moved(call: Call, text: &mut [u8]) -> usize {
+    match call {
+        Call::Clear(_) => text::words(text, 0, b"cleared"),
+        Call::GoTo(_) => text::words(text, 0, b"went"),
+        _ => text::words(text, 0, b"sought"),
+    }
+}
+
+// A call that tells the record.
+fn did(call: Call, n: Numbers, text: &mut [u8]) -> usize {
+    match call {
+        Call::Play(_) => played(n, text),
+        Call::Set(_) => labelled(text, 0, b"set ", n.slot),
+        Call::SetFree => labelled(text, 0, b"set ", n.slot),
+        _ => moved(call, text),
+    }
+}
+
+// A line but for its newline.
+pub(crate) fn accepted(call: Call, n: Numbers, image: &[u8], text: &mut [u8]) -> usize {
+    match call {
+        Call::Image => {
+            let at = text::words(text, 0, b"image ");
+            text::hex(text, at, image)
+        }
+        Call::Memory => labelled(text, 0, b"memory sum ", n.sum),
+        Call::Unknown => text::words(text, 0, b"unknown"),
+        _ => {
+            let at = did(call, n, text);
+            record(n, text, at)
+        }
+    }
+}
+
+pub(crate) fn refused(why: Refusal, n: Numbers, text: &mut [u8]) -> usize {
+    let at = text::refused(text, 0, why);
+    record(n, text, at)
 }

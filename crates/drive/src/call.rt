@@ -1,6 +1,6 @@
 // A line as a call. A line that is not exactly one, as by another case, a second space or a sign, is `Unknown`.
 
-pub enum Call {
+pub(crate) enum Call {
     Play(u32),
     Seek(u32),
     Set(u32),
@@ -106,7 +106,7 @@ fn moving(line: &[u8]) -> Call {
     marking(line)
 }
 
-pub fn call_of(line: &[u8]) -> Call {
+pub(crate) fn call_of(line: &[u8]) -> Call {
     if same(line, b"set free") {
         return Call::SetFree;
     }

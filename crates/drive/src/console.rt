@@ -1,20 +1,24 @@
 // Standard input, cut into lines, each of them a call.
 use crate::answer;
+use crate::answer::Numbers;
 use crate::call;
 use crate::call::Call;
 use crate::output;
+use deck::MEMORY_SIZE;
+use deck::Player;
 use libc::STDIN_FILENO;
-use player::Player;
+use refusal::Answer;
+use report::text;
 
-// The record, how many bytes are kept of a line that has not ended, and whether more may come.
-struct Console {
-    player: Player,
+// Where the input stands: the next of the bytes that were read, how many were, how many are kept of a line, whether the line has ended,
+// and whether more may come.
+struct Input {
+    at: usize,
+    size: usize,
     kept: usize,
+    ended: bool,
     open: bool,
 }
-
-// One more than the bytes of the longest call, `clear 4294967295`: a line that fills them all is no call, however long it is.
-const FRONT: usize = 17;
 
 fn keep(line: &mut [u8], kept: usize, byte: u8) -> usize {
     if kept < line.len() {
@@ -24,102 +28,128 @@ fn keep(line: &mut [u8], kept: usize, byte: u8) -> usize {
     kept
 }
 
-fn call_in(line: &[u8], kept: usize) -> Call {
-    if kept < line.len() {
-        return call::call_of(&line[..kept]);
+fn call_in(line: &[u8; 17], kept: usize) -> Call {
+    let front: &[u8] = line;
+    if kept < front.len() {
+        return call::call_of(&front[..kept]);
     }
     Call::Unknown
 }
 
+fn put(text: &[u8; 1024], end: usize) {
+    output::put(text, end);
+}
+
+fn newline(text: &mut [u8; 1024], at: usize) -> usize {
+    text::words(text, at, b"\n")
+}
+
 // The longest line, an image's, has 847 bytes.
+fn tell(call: Call, a: Answer, n: Numbers, image: &[u8]) {
+    let mut text = [0u8; 1024];
+    let at = match a {
+        Answer::Accepted => answer::accepted(call, n, image, &mut text),
+        Answer::Refused(why) => answer::refused(why, n, &mut text),
+    };
+    let end = newline(&mut text, at);
+    put(&text, end);
+}
+
 fn answered(
     p: Player,
-    line: &[u8],
-    kept: usize,
+    call: Call,
     log: &[u8],
-    memory: &mut [u8],
-    sides: &mut [i16],
+    memory: &mut [u8; MEMORY_SIZE],
+    sides: &mut [i16; 65536],
 ) -> Player {
-    let mut text = [0u8; 1024];
-    let call = call_in(line, kept);
-    let s = answer::answer(p, call, log, memory, sides, &mut text);
-    output::put(&text, s.end);
-    s.player
+    let mut image = [0u8; 420];
+    let free = player::lowest_free(p);
+    let r = answer::done(p, call, log, memory, sides, &mut image);
+    let q = r.player;
+    let a = r.answer;
+    let n = answer::told(q, call, r.frames, free, memory, sides);
+    tell(call, a, n, &image);
+    q
 }
 
-// Each line that ends in these bytes; what stands behind the last is the front of one that goes on.
-fn lines(
-    c: Console,
-    bytes: &[u8],
-    line: &mut [u8],
-    log: &[u8],
-    memory: &mut [u8],
-    sides: &mut [i16],
-) -> Console {
-    let mut p = c.player;
-    let mut kept = c.kept;
-    let mut i = 0;
-    while i < bytes.len() {
-        let b = bytes[i];
-        if b == b'\n' {
-            p = answered(p, line, kept, log, memory, sides);
-            kept = 0;
-        } else {
-            kept = keep(line, kept, b);
-        }
-        i += 1;
-    }
-    Console {
-        player: p,
-        kept: kept,
-        open: true,
-    }
-}
-
-// No byte more. Of an input that failed, what was kept is no line.
-fn closed(c: Console, got: isize) -> Console {
-    let mut d = c;
-    d.open = false;
+// No byte more. A rest without a newline at the end is a line too: but of an input that failed, what was kept is no line.
+fn closed(i: Input, got: isize) -> Input {
+    let mut t = i;
+    t.open = false;
     if got < 0 {
         os::fail(b"standard input");
-        d.kept = 0;
+    } else {
+        t.ended = i.kept > 0;
     }
-    d
+    t
 }
 
-fn turn(c: Console, line: &mut [u8], log: &[u8], memory: &mut [u8], sides: &mut [i16]) -> Console {
-    let mut bytes = [0u8; 4096];
-    let got = libc::read(STDIN_FILENO, &mut bytes);
+// The next bytes, when all that were read are used.
+fn filled(i: Input, bytes: &mut [u8]) -> Input {
+    let got = libc::read(STDIN_FILENO, bytes);
     if got <= 0 {
-        return closed(c, got);
+        return closed(i, got);
     }
-    let n = io::count(got, &bytes);
-    lines(c, &bytes[..n], line, log, memory, sides)
+    let mut t = i;
+    t.at = 0;
+    t.size = io::count(got, bytes);
+    t
 }
 
-// Nothing says that the input ends, so the loop counts its turns down, from a number that no run uses up.
-fn turns(p: Player, line: &mut [u8], log: &[u8], memory: &mut [u8], sides: &mut [i16]) -> Console {
-    let mut c = Console {
-        player: p,
+// One byte on.
+fn stepped(i: Input, bytes: &[u8], line: &mut [u8]) -> Input {
+    let at = i.at;
+    let mut t = i;
+    if at < bytes.len() {
+        t.at = at + 1;
+        let b = bytes[at];
+        if b == b'\n' {
+            t.ended = true;
+        } else {
+            t.kept = keep(line, i.kept, b);
+        }
+    }
+    t
+}
+
+fn next(i: Input, bytes: &mut [u8; 4096], line: &mut [u8; 17]) -> Input {
+    if i.at < i.size {
+        return stepped(i, bytes, line);
+    }
+    filled(i, bytes)
+}
+
+fn begun(i: Input) -> Input {
+    let mut t = i;
+    t.kept = 0;
+    t.ended = false;
+    t
+}
+
+// A line is the bytes up to a newline; a rest without one at the end is a line too. The frame buffer holds 32,768 frames. A line that
+// fills the 17 bytes of its front, one more than the longest call, `clear 4294967295`, has, is no call, however long it is. Nothing says
+// that the input ends, so the loop counts its turns down, from a number that no run uses up.
+pub(crate) fn run(log: &[u8]) {
+    let mut bytes = [0u8; 4096];
+    let mut line = [0u8; 17];
+    let mut memory = [0u8; MEMORY_SIZE];
+    let mut sides = [0i16; 65536];
+    let t = player::open(log);
+    let mut p = t.player;
+    let mut i = Input {
+        at: 0,
+        size: 0,
         kept: 0,
+        ended: false,
         open: true,
     };
     let mut left = u64::MAX;
-    while left > 0 && c.open {
-        c = turn(c, line, log, memory, sides);
+    while left > 0 && i.open {
+        i = next(i, &mut bytes, &mut line);
+        if i.ended {
+            p = answered(p, call_in(&line, i.kept), log, &mut memory, &mut sides);
+            i = begun(i);
+        }
         left -= 1;
-    }
-    c
-}
-
-// "A line is the bytes up to a newline; a rest without one at the end is a line too." The frame buffer holds 32,768 frames.
-pub fn run(p: Player, log: &[u8]) {
-    let mut line = [0u8; FRONT];
-    let mut memory = [0u8; 6848];
-    let mut sides = [0i16; 65536];
-    let c = turns(p, &mut line, log, &mut memory, &mut sides);
-    if c.kept > 0 {
-        let q = c.player;
-        answered(q, &line, c.kept, log, &mut memory, &mut sides);
     }
 }

@@ -72,9 +72,7 @@ fn drive(log: &[u8]) {
     match c {
         Checked::Log { count, cycles } => {
             opened(count, cycles);
-            let t = player::open(log);
-            let p = t.player;
-            console::run(p, log);
+            console::run(log);
         }
         Checked::Refused(why) => refused(why),
     }
@@ -92,13 +90,15 @@ fn take_file(fd: i32, path: &[u8], space: &mut [u8]) -> Taken
     t
 }
 
-fn drive_file(path: &[u8], space: &mut [u8]) {
+// There is room for one byte more than a log may have, so that a longer one shows.
+fn drive_file(path: &[u8]) {
     let fd = os::open_read(path);
     if fd < 0 {
         os::fail(path);
         return;
     }
-    let t = take_file(fd, path, space);
+    let mut space = [0u8; 1048577];
+    let t = take_file(fd, path, &mut space);
     let size = t.size;
     if size > MOST {
         refused(Refusal::Room);
@@ -107,7 +107,6 @@ fn drive_file(path: &[u8], space: &mut [u8]) {
     }
 }
 
-// There is room for one byte more than a log may have, so that a longer one shows.
 fn main() {
     let mut path = io::buffer();
     let length = os::arg(1, &mut path);
@@ -115,6 +114,5 @@ fn main() {
         io::write_all(STDERR_FILENO, b"usage: drive FILE\n");
         return;
     }
-    let mut space = [0u8; 1048577];
-    drive_file(&path[..length], &mut space);
+    drive_file(&path[..length]);
 }

@@ -1,6 +1,7 @@
 // A long seek as several, so that progress can be told between them: a cycle has one state, however it is reached.
-use player::Player;
-use player::Turn;
+use deck::Player;
+use deck::Turn;
+use refusal::Answer;
 use report::progress;
 ghost use Prim.Native.Nat.{_*_, _≤_};
 
@@ -22,18 +23,19 @@ fn hops(cycle: u32, target: u32, cycles: u32) -> u32
 }
 
 // Of an accepted log, whose header has L at 12.
-pub fn seek(p: Player, target: u32, log: &[u8]) -> Turn {
+pub(crate) fn seek(p: Player, target: u32, log: &[u8]) -> Turn {
     let all = hops(p.cycle, target, little::u32_at(log, 12));
-    let mut q = p;
+    let mut t = Turn {
+        player: p,
+        answer: Answer::Accepted,
+    };
     let mut told = 100;
-    let mut left = all;
+    let mut left = all + 1;
     while left > 0 {
-        let t = player::seek(q, target - left * HOP, log);
-        q = t.player;
-        told = progress::show(told, all - left, all);
         left -= 1;
+        let q = t.player;
+        t = player::seek(q, target - left * HOP, log);
+        told = progress::show(told, all - left, all);
     }
-    let t = player::seek(q, target, log);
-    progress::show(told, all, all);
     t
 }

@@ -1,6 +1,7 @@
 // Runs document 01's "Run by program" figures and the refusals of the unit's calls, and prints what each gave.
 use libc::STDOUT_FILENO;
 use refusal::Answer;
+use report::print;
 use report::sum::side;
 use voice::channel_enum::Kind;
 use vsu::core;
@@ -8,10 +9,6 @@ use vsu::core::Vsu;
 
 fn text(t: &[u8]) {
     io::write_all(STDOUT_FILENO, t);
-}
-
-fn number(n: u32) {
-    io::print_decimal(STDOUT_FILENO, n as u64);
 }
 
 fn set(u: Vsu, address: u32, value: u8) -> Vsu {
@@ -29,10 +26,7 @@ fn after(u: Vsu, n: u32) -> Vsu {
 fn frames(n: u32) {
     let mut out = [0i16; 4];
     let r = core::run(core::new(), n, &mut out);
-    number(n);
-    text(b" cycles ");
-    number(r.frames);
-    text(b" frames\n");
+    print::line(b"# cycles # frames\n", &[n as u64, r.frames as u64]);
 }
 
 // Channel 1's position.
@@ -55,36 +49,32 @@ fn position(u: Vsu) -> u8 {
     }
 }
 
-fn wide(x: u8) -> u32 {
-    x as u32
-}
-
-fn wider(x: u16) -> u32 {
-    x as u32
+fn frequency(u: Vsu) -> u16 {
+    let voices = u.voices;
+    let v = voices[0];
+    v.channel.pitch.frequency
 }
 
 fn moves(before: u32, then: u32) {
     let u = set(core::new(), 0x400, 0x80);
-    text(b"frequency ");
-    let voices = u.voices;
-    let v = voices[0];
-    number(wider(v.channel.pitch.frequency));
-    text(b": position ");
-    number(wide(position(after(u, before))));
-    text(b" after ");
-    number(before);
-    text(b" cycles, ");
-    number(wide(position(after(u, then))));
-    text(b" after ");
-    number(then);
-    text(b"\n");
+    let f = frequency(u);
+    let p = position(after(u, before));
+    let q = position(after(u, then));
+    print::line(
+        b"frequency #: position # after # cycles, # after #\n",
+        &[f as u64, p as u64, before as u64, q as u64, then as u64],
+    );
 }
 
 // Whether channel 1 plays.
-fn plays(u: Vsu) {
+fn playing(u: Vsu) -> bool {
     let voices = u.voices;
     let v = voices[0];
-    if v.channel.live.playing {
+    v.channel.live.playing
+}
+
+fn plays(so: bool) {
+    if so {
         text(b"plays");
     } else {
         text(b"stopped");
@@ -93,16 +83,13 @@ fn plays(u: Vsu) {
 
 fn stops(what: &[u8], value: u8, before: u32, then: u32) {
     let u = set(core::new(), 0x400, value);
+    let a = playing(after(u, before));
+    let b = playing(after(u, then));
     text(what);
-    text(b": ");
-    plays(after(u, before));
-    text(b" after ");
-    number(before);
-    text(b" cycles, ");
-    plays(after(u, then));
-    text(b" after ");
-    number(then);
-    text(b"\n");
+    plays(a);
+    print::line(b" after # cycles, ", &[before as u64]);
+    plays(b);
+    print::line(b" after #\n", &[then as u64]);
 }
 
 // Channel 5's current frequency.
@@ -128,30 +115,28 @@ fn current(u: Vsu) -> u16 {
     }
 }
 
-fn acts(before: u32, then: u32) {
-    let u = set(set(core::new(), 0x508, 0x55), 0x50C, 0x05);
+fn written(u: Vsu) -> u16 {
     let voices = u.voices;
     let v = voices[4];
-    text(b"channel 5 frequency: written ");
-    number(wider(v.channel.pitch.frequency));
-    text(b", current ");
-    number(wider(current(after(u, before))));
-    text(b" after ");
-    number(before);
-    text(b" cycles, ");
-    number(wider(current(after(u, then))));
-    text(b" after ");
-    number(then);
-    text(b"\n");
+    v.channel.pitch.frequency
+}
+
+fn acts(before: u32, then: u32) {
+    let u = set(set(core::new(), 0x508, 0x55), 0x50C, 0x05);
+    let f = written(u);
+    let p = current(after(u, before));
+    let q = current(after(u, then));
+    print::line(
+        b"channel 5 frequency: written #, current # after # cycles, # after #\n",
+        &[f as u64, p as u64, before as u64, q as u64, then as u64],
+    );
 }
 
 fn frame(cycle: u32, left: i16, right: i16) {
-    number(cycle);
-    text(b" ");
-    number(side(left));
-    text(b" ");
-    number(side(right));
-    text(b"\n");
+    print::line(
+        b"# # #\n",
+        &[cycle as u64, side(left) as u64, side(right) as u64],
+    );
 }
 
 // The four writes of document 01's own log.
@@ -166,11 +151,10 @@ fn own_log() -> Vsu {
 fn whole(n: u32) {
     let mut out = [0i16; 4];
     let r = core::run(own_log(), n, &mut out);
-    text(b"own log: ");
-    number(n);
-    text(b" cycles ");
-    number(r.frames);
-    text(b" frames\n");
+    print::line(
+        b"own log: # cycles # frames\n",
+        &[n as u64, r.frames as u64],
+    );
 }
 
 // One cycle, and its frame if it made one.
@@ -199,10 +183,10 @@ fn answer(a: Answer) {
     match a {
         Answer::Accepted => text(b"accepted"),
         Answer::Refused(why) => {
-            text(b"refused ");
-            number(refusal::number(why));
-            text(b" ");
-            number(refusal::carried(why));
+            print::line(
+                b"refused # #",
+                &[refusal::number(why) as u64, refusal::carried(why) as u64],
+            );
         }
     }
 }
@@ -233,55 +217,43 @@ fn beyond() -> Vsu {
     u
 }
 
+fn told(what: &[u8], a: Answer, output: u32) {
+    text(what);
+    answer(a);
+    print::line(b", output #", &[output as u64]);
+}
+
 fn run_beyond(out: &mut [i16]) {
     let r = core::run(beyond(), 480, out);
-    text(b"run of output 480: ");
     let a = r.answer;
-    answer(a);
-    text(b", output ");
     let s = r.state;
-    number(s.output);
+    told(b"run of output 480: ", a, s.output);
     buffer(out);
 }
 
 fn write_beyond() {
     let m = core::write(beyond(), 0x580, 1);
-    text(b"write to output 480: ");
     let a = m.answer;
-    answer(a);
-    text(b", output ");
     let s = m.state;
-    number(s.output);
+    told(b"write to output 480: ", a, s.output);
     text(b"\n");
 }
 
 fn advance_beyond() {
     let m = core::advance(beyond(), 480);
-    text(b"advance of output 480: ");
     let a = m.answer;
-    answer(a);
-    text(b", output ");
     let s = m.state;
-    number(s.output);
+    told(b"advance of output 480: ", a, s.output);
     text(b"\n");
-}
-
-fn sides(out: &[i16]) {
-    io::print_decimal(STDOUT_FILENO, out.len() as u64);
 }
 
 // A run from power-on into the room that `out` is.
 fn room(n: u32, out: &mut [i16]) {
-    number(n);
-    text(b" cycles into ");
-    sides(out);
-    text(b" sides: ");
     let r = core::run(core::new(), n, out);
     let a = r.answer;
+    print::line(b"# cycles into # sides: ", &[n as u64, out.len() as u64]);
     answer(a);
-    text(b", ");
-    number(r.frames);
-    text(b" frames");
+    print::line(b", # frames", &[r.frames as u64]);
     buffer(out);
 }
 
@@ -301,8 +273,8 @@ fn main() {
     frames(479);
     frames(480);
     moves(8191, 8192);
-    stops(b"0x400 <- 0xBF", 0xBF, 76_804, 76_805);
-    stops(b"0x400 <- 0xA0", 0xA0, 76_804, 76_805);
+    stops(b"0x400 <- 0xBF: ", 0xBF, 76_804, 76_805);
+    stops(b"0x400 <- 0xA0: ", 0xA0, 76_804, 76_805);
     acts(19_200, 19_201);
     whole(960);
     cycles(960);

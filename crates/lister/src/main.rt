@@ -1,11 +1,11 @@
 // Lists the log on standard input as document 01's "The listing" says: its first line, then a line for each frame.
+use deck::Player;
 use libc::STDERR_FILENO;
 use libc::STDIN_FILENO;
 use libc::STDOUT_FILENO;
 use log::Checked;
 use log::Read;
 use log::reader;
-use player::Player;
 use refusal::Refusal;
 use report::progress;
 use report::sum;

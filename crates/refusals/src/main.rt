@@ -8,18 +8,28 @@ mod trial;
 use crate::damage::Damage;
 use crate::damage::Given;
 use crate::trial::Call;
+use crate::trial::Seen;
+use deck::MEMORY_SIZE;
 use libc::STDOUT_FILENO;
-use player::Player;
-use player::lowest_free;
-use player::marks_set;
-use refusal::Answer;
+use report::print;
 
 fn text(t: &[u8]) {
     io::write_all(STDOUT_FILENO, t);
 }
 
-fn number(n: u32) {
-    io::print_decimal(STDOUT_FILENO, n as u64);
+// A word of a list that has one to a line.
+fn word(list: &[u8], n: u32) {
+    let mut k = 0;
+    let mut i = 0;
+    while i < list.len() {
+        let b = [list[i]];
+        if b[0] == b'\n' {
+            k = std::num::wrapping_add_u32(k, 1);
+        } else if k == n {
+            text(&b);
+        }
+        i += 1;
+    }
 }
 
 // The call's bit in the table of damages.
@@ -35,71 +45,68 @@ fn bit(c: Call) -> u8 {
     }
 }
 
+// In the order of their bits.
 fn name(c: Call) {
-    match c {
-        Call::Open => text(b"open: "),
-        Call::Play => text(b"play: "),
-        Call::Seek => text(b"seek: "),
-        Call::SetMark => text(b"set_mark: "),
-        Call::SetFree => text(b"set_free: "),
-        Call::ClearMark => text(b"clear_mark: "),
-        Call::GoTo => text(b"go_to: "),
-    }
+    word(
+        b"open: \nplay: \nseek: \nset_mark: \nset_free: \nclear_mark: \ngo_to: ",
+        u8::trailing_zeros(bit(c)),
+    );
 }
 
-// Prints an answer, and says whether it is the refusal of this number with this value.
-fn told(a: Answer, due: u32, carried: u32) -> bool {
-    match a {
-        Answer::Accepted => {
-            text(b"accepted");
-            false
-        }
-        Answer::Refused(why) => {
-            text(b"refused ");
-            number(refusal::number(why));
-            text(b" ");
-            number(refusal::carried(why));
-            (refusal::number(why) == due) & (refusal::carried(why) == carried)
-        }
+// In the order of their rows.
+fn damage_name(i: u32) {
+    word(
+        b"log short\nlog edition\nlog header length\nlog entry offset\nlog count\nlog size\nlog entry 2\nlog entry 4\nrecord state\nrecord cycle\nrecord applied\nmemory short\nmark number\nmark not set\nall set\nslot header\nslot level\nslot output\nslot cycle\nslot applied\nbeyond\nroom",
+        i,
+    );
+}
+
+fn told(s: Seen) {
+    if s.number == 0 {
+        text(b"accepted");
+    } else {
+        print::line(b"refused # #", &[s.number as u64, s.carried as u64]);
     }
 }
 
 // The rows are in document 01's order, so that of two damages the first is the one refused.
-fn pair(g: Given, c: Call, a: usize, b: usize) {
-    let first = damage::row_at(a);
-    let second = damage::row_at(if a < b { b } else { damage::ROWS });
-    let d = first.0;
-    let e = second.0;
-    name(c);
-    damage::name(a);
-    if a < b {
-        text(b" + ");
-        damage::name(b);
-    }
-    text(b": ");
-    let seen = trial::tried(c, g, d, e);
-    let played = seen.played;
-    let answer = played.answer;
-    let right = told(answer, first.1, first.2);
-    if seen.kept {
+fn verdict(s: Seen, number: u32, carried: u32) {
+    if s.kept {
         text(b" kept");
     } else {
         text(b" CHANGED");
     }
-    if right {
+    if (s.number == number) & (s.carried == carried) {
         text(b" ok\n");
     } else {
         text(b" WRONG\n");
     }
 }
 
-fn refused_for(c: Call, i: usize) -> bool {
+fn pair(g: Given, c: Call, a: u32, b: u32) {
+    let first = damage::row_at(a);
+    let second = damage::row_at(if a < b { b } else { damage::ROWS });
+    let d = first.0;
+    let e = second.0;
+    let s = trial::tried(c, g, d, e);
+    name(c);
+    damage_name(a);
+    if a < b {
+        text(b" + ");
+        damage_name(b);
+    }
+    text(b": ");
+    told(s);
+    verdict(s, first.1, first.2);
+}
+
+fn refused_for(c: Call, i: u32) -> bool {
     let r = damage::row_at(i);
     r.3 & bit(c) != 0
 }
 
 // A damage alone, then with each later one that the call is refused for.
-fn with_each(g: Given, c: Call, a: usize) {
+fn with_each(g: Given, c: Call, a: u32) {
     let mut b = a;
     while b < damage::ROWS {
         if refused_for(c, b) {
@@ -121,39 +128,40 @@ fn refusals(g: Given, c: Call) {
 
 // A call with one damage or none: what it came to, and whether all is as before.
 fn line(c: Call, what: &[u8], g: Given, d: Damage) {
+    let s = trial::tried(c, g, d, Damage::Nothing);
     name(c);
     text(what);
     text(b": ");
-    let seen = trial::tried(c, g, d, Damage::Nothing);
-    let played = seen.played;
-    let answer = played.answer;
-    told(answer, 0, 0);
-    text(b", frames ");
-    number(played.frames);
-    let p = played.player;
-    text(b", cycle ");
-    number(p.cycle);
-    text(b" applied ");
-    number(p.applied);
-    text(b" marks ");
-    number(marks_set(p));
-    text(b" free ");
-    number(lowest_free(p));
-    if seen.kept {
+    told(s);
+    print::line(
+        b", frames #, cycle # applied # marks # free #",
+        &[
+            s.frames as u64,
+            s.cycle as u64,
+            s.applied as u64,
+            s.marks as u64,
+            s.free as u64,
+        ],
+    );
+    if s.kept {
         text(b", kept\n");
     } else {
         text(b", changed\n");
     }
 }
 
-// A play or a seek to 2,960, for which two frames are due; room for six.
-fn given(p: Player) -> Given {
+// The record that most calls are given, at cycle 2,000 with slot 3 set; a play or a seek to 2,960, for which two frames are due; room
+// for six.
+fn given() -> Given {
     Given {
-        player: p,
+        output: 80,
+        cycle: 2000,
+        applied: 5,
+        marks: 8,
         slot: 3,
         end: 2960,
         log: 64,
-        memory: 6848,
+        memory: MEMORY_SIZE,
         sides: 12,
     }
 }
@@ -175,11 +183,17 @@ fn plays(g: Given) {
     edge(Call::Play, b"399 cycles, no side", to(g, 2399, 0));
     edge(Call::Play, b"400 cycles, one side", to(g, 2400, 1));
     edge(Call::Play, b"400 cycles, three sides", to(g, 2400, 3));
+}
+
+fn plays_to_end(g: Given) {
     edge(Call::Play, b"to L, twelve sides", to(g, 4800, 12));
     edge(Call::Play, b"to L, eleven sides", to(g, 4800, 11));
     edge(Call::Play, b"beyond L, eleven sides", to(g, 4801, 11));
     edge(Call::Play, b"4294967295 cycles", to(g, 1999, 12));
-    let end = given(trial::silent(4800, 6));
+    let mut end = g;
+    end.cycle = 4800;
+    end.applied = 6;
+    end.marks = 0;
     edge(Call::Play, b"0 cycles at L", to(end, 2000, 12));
     edge(Call::Play, b"1 cycle at L", to(end, 2001, 12));
 }
@@ -194,8 +208,7 @@ fn seeks(g: Given) {
     edge(Call::Seek, b"back to 0", to(g, 0, 0));
 }
 
-// "A call checks only what it is lent": clear has no log to find a wrong place by.
-fn marks(g: Given) {
+fn sets(g: Given) {
     line(Call::SetMark, b"a free slot", g, Damage::Slot(15));
     edge(Call::SetMark, b"a slot in use", g);
     line(
@@ -206,6 +219,10 @@ fn marks(g: Given) {
     );
     edge(Call::SetFree, b"slot 3 in use", g);
     line(Call::SetFree, b"slot 3 cleared", g, Damage::Marks(0xFFF7));
+}
+
+// "A call checks only what it is lent": clear has no log to find a wrong place by.
+fn clears(g: Given) {
     edge(Call::ClearMark, b"slot 3", g);
     line(
         Call::ClearMark,
@@ -226,7 +243,7 @@ fn marks(g: Given) {
 }
 
 fn main() {
-    let g = given(trial::standing());
+    let g = given();
     refusals(g, Call::Open);
     refusals(g, Call::Play);
     refusals(g, Call::Seek);
@@ -235,6 +252,8 @@ fn main() {
     refusals(g, Call::ClearMark);
     refusals(g, Call::GoTo);
     plays(g);
+    plays_to_end(g);
     seeks(g);
-    marks(g);
+    sets(g);
+    clears(g);
 }

@@ -2,21 +2,24 @@
 use crate::damage;
 use crate::damage::Damage;
 use crate::damage::Given;
+use deck::Played;
+use deck::Player;
+use deck::Turn;
 use image::write_image;
 use little::Width;
-use player::Played;
-use player::Player;
-use player::Turn;
 use player::clear_mark;
 use player::go_to;
+use player::lowest_free;
+use player::marks_set;
 use player::open;
 use player::play;
 use player::seek;
 use player::set_free;
 use player::set_mark;
+use refusal::Answer;
 use vsu::core;
 
-pub enum Call {
+pub(crate) enum Call {
     Open,
     Play,
     Seek,
@@ -26,10 +29,17 @@ pub enum Call {
     GoTo,
 }
 
-// What came of a call, and whether record and every lent byte are as before and no frame is counted.
-pub struct Seen {
-    pub played: Played,
-    pub kept: bool,
+// What came of a call: the refusal's number (0: accepted) and the value it carries, the frames, the record's numbers, and whether the
+// record and every lent byte are as before and no frame is counted.
+pub(crate) struct Seen {
+    pub(crate) number: u32,
+    pub(crate) carried: u32,
+    pub(crate) frames: u32,
+    pub(crate) cycle: u32,
+    pub(crate) applied: u32,
+    pub(crate) marks: u32,
+    pub(crate) free: u32,
+    pub(crate) kept: bool,
 }
 
 // Eight bytes of a log: two numbers of 32 bits.
@@ -67,7 +77,7 @@ fn own_log() -> [u8; 64] {
 }
 
 // A record with a power-on unit. A call takes it at any place that the log has.
-pub fn silent(cycle: u32, applied: u32) -> Player {
+fn silent(cycle: u32, applied: u32) -> Player {
     let u = core::new();
     Player {
         unit: u,
@@ -77,48 +87,67 @@ pub fn silent(cycle: u32, applied: u32) -> Player {
     }
 }
 
-// The record that most calls are given: cycle 2,000, slot 3 set.
-pub fn standing() -> Player {
+// The record that a call is given: the unit at cycle 2,000, and the numbers.
+fn record(g: Given) -> Player {
     let log = own_log();
     let t = seek(silent(0, 0), 2000, &log);
     let mut p = t.player;
-    p.marks = 8;
+    let mut u = p.unit;
+    u.output = g.output;
+    p.unit = u;
+    p.cycle = g.cycle;
+    p.applied = g.applied;
+    p.marks = g.marks;
     p
 }
 
-fn no_frames(t: Turn) -> Played {
-    let p = t.player;
-    let a = t.answer;
-    Played {
-        player: p,
-        frames: 0,
-        answer: a,
+// A record as bytes: its image, and its numbers behind that. A unit out of range has no image: the damaged ones are so by their output
+// counters alone, which are laid apart.
+fn laid(p: Player) -> [u8; 434] {
+    let mut out = [0u8; 434];
+    let mut u = p.unit;
+    little::put(&mut out, 420, Width::U32, u.output);
+    little::put(&mut out, 424, Width::U32, p.cycle);
+    little::put(&mut out, 428, Width::U32, p.applied);
+    little::put(&mut out, 432, Width::U16, p.marks as u32);
+    u.output = 0;
+    write_image(u, &mut out);
+    out
+}
+
+// "A refused call hands back the given record", "a refused opening hands back the power-on record".
+fn handed_back(c: Call, given: Player) -> Player {
+    match c {
+        Call::Open => silent(0, 0),
+        _ => given,
+    }
+}
+
+// Any call but a play.
+fn turned(c: Call, p: Player, g: Given, log: &[u8], memory: &mut [u8]) -> Turn {
+    match c {
+        Call::Seek => seek(p, g.end, log),
+        Call::SetMark => set_mark(p, g.slot, log, memory),
+        Call::SetFree => set_free(p, log, memory),
+        Call::ClearMark => clear_mark(p, g.slot),
+        Call::GoTo => go_to(p, g.slot, log, memory),
+        _ => open(log),
     }
 }
 
 // The cycles to play are counted from 2,000, also where a record is damaged.
-fn made(c: Call, g: Given, log: &[u8], memory: &mut [u8], out: &mut [i16]) -> Played {
-    let p = g.player;
-    match c {
-        Call::Open => no_frames(open(log)),
-        Call::Play => play(p, std::num::wrapping_sub_u32(g.end, 2000), log, out),
-        Call::Seek => no_frames(seek(p, g.end, log)),
-        Call::SetMark => no_frames(set_mark(p, g.slot, log, memory)),
-        Call::SetFree => no_frames(set_free(p, log, memory)),
-        Call::ClearMark => no_frames(clear_mark(p, g.slot)),
-        Call::GoTo => no_frames(go_to(p, g.slot, log, memory)),
+fn made(c: Call, p: Player, g: Given, log: &[u8], memory: &mut [u8], out: &mut [i16]) -> Played {
+    if let Call::Play = c {
+        return play(p, std::num::wrapping_sub_u32(g.end, 2000), log, out);
     }
-}
-
-// The call, lent as much of each as is given.
-fn called(c: Call, g: Given, log: &[u8], memory: &mut [u8], out: &mut [i16]) -> Played {
-    let l = g.log;
-    let m = g.memory;
-    let s = g.sides;
-    if (l > log.len()) || (m > memory.len()) || (s > out.len()) {
-        return no_frames(open(log));
+    let t = turned(c, p, g, log, memory);
+    let q = t.player;
+    let a = t.answer;
+    Played {
+        player: q,
+        frames: 0,
+        answer: a,
     }
-    made(c, g, &log[..l], &mut memory[..m], &mut out[..s])
 }
 
 fn same_bytes(x: &[u8], y: &[u8]) -> bool {
@@ -144,53 +173,74 @@ fn untouched(out: &[i16]) -> bool {
     true
 }
 
-// Two records. A unit out of range has no image: the damaged ones are so by their output counters alone, which are compared apart.
-fn same(x: Player, y: Player) -> bool {
-    let mut xs = [0u8; 420];
-    let mut ys = [1u8; 420];
-    let mut u = x.unit;
-    let mut v = y.unit;
-    let outputs = u.output == v.output;
-    u.output = 0;
-    v.output = 0;
-    write_image(u, &mut xs);
-    write_image(v, &mut ys);
-    outputs
-        & same_bytes(&xs, &ys)
-        & (x.cycle == y.cycle)
-        & (x.applied == y.applied)
-        & (x.marks == y.marks)
-}
-
-// "A refused call hands back the given record [..]; a refused opening hands back the power-on record"
-fn handed_back(c: Call, given: Player) -> Player {
-    match c {
-        Call::Open => silent(0, 0),
-        _ => given,
+// 0 and 0 for an accepted call.
+fn numbers(a: Answer) -> Seen {
+    let mut s = Seen {
+        number: 0,
+        carried: 0,
+        frames: 0,
+        cycle: 0,
+        applied: 0,
+        marks: 0,
+        free: 0,
+        kept: false,
+    };
+    if let Answer::Refused(why) = a {
+        s.number = refusal::number(why);
+        s.carried = refusal::carried(why);
     }
+    s
 }
 
-// A call with two damages. Slot 3 holds a record at L; of the other slots no byte was ever written by a call.
-pub fn tried(c: Call, given: Given, d: Damage, e: Damage) -> Seen {
+fn summed(r: Played, same: bool) -> Seen {
+    let p = r.player;
+    let a = r.answer;
+    let mut s = numbers(a);
+    s.frames = r.frames;
+    s.cycle = p.cycle;
+    s.applied = p.applied;
+    s.marks = marks_set(p);
+    s.free = lowest_free(p);
+    s.kept = same & (r.frames == 0);
+    s
+}
+
+fn called(c: Call, g: Given, log: &[u8], memory: &mut [u8], out: &mut [i16]) -> Seen {
+    let p = record(g);
+    let r = made(c, p, g, log, memory, out);
+    let q = r.player;
+    let before = laid(handed_back(c, p));
+    let after = laid(q);
+    summed(r, same_bytes(&before, &after))
+}
+
+// The call, lent as much of each as is given. There is always as much.
+fn lent(c: Call, g: Given, log: &[u8], memory: &mut [u8], out: &mut [i16]) -> Seen {
+    let l = g.log;
+    let m = g.memory;
+    let s = g.sides;
+    if (l > log.len()) || (m > memory.len()) || (s > out.len()) {
+        return numbers(Answer::Accepted);
+    }
+    called(c, g, &log[..l], &mut memory[..m], &mut out[..s])
+}
+
+// Slot 3 holds a record at L.
+fn mark(log: &[u8], memory: &mut [u8]) {
+    set_mark(silent(4800, 6), 3, log, memory);
+}
+
+// A call with two damages. Of the other slots no byte was ever written by a call. The log is lent to be read alone.
+pub(crate) fn tried(c: Call, g: Given, d: Damage, e: Damage) -> Seen {
     let mut log = own_log();
     let mut memory = [7u8; 6849];
     let mut out = [7i16; 12];
-    set_mark(silent(4800, 6), 3, &log, &mut memory);
+    mark(&log, &mut memory);
     damage::damage_bytes(&mut log, &mut memory, d);
     damage::damage_bytes(&mut log, &mut memory, e);
-    let g = damage::damaged(damage::damaged(given, d), e);
-    let log_before = log;
-    let memory_before = memory;
-    let played = called(c, g, &log, &mut memory, &mut out);
-    let p = g.player;
-    let q = played.player;
-    let kept = same(handed_back(c, p), q)
-        & same_bytes(&log_before, &log)
-        & same_bytes(&memory_before, &memory)
-        & untouched(&out)
-        & (played.frames == 0);
-    Seen {
-        played: played,
-        kept: kept,
-    }
+    let before = memory;
+    let t = damage::damaged(damage::damaged(g, d), e);
+    let mut s = lent(c, t, &log, &mut memory, &mut out);
+    s.kept = s.kept & same_bytes(&before, &memory) & untouched(&out);
+    s
 }

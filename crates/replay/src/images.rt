@@ -1,6 +1,6 @@
 // The ops on images: the present state's, with and without a byte set, and any bytes read as one.
-use crate::standing;
-use crate::standing::Replay;
+use crate::tally;
+use crate::tally::Tally;
 use image::read_image;
 use image::write_image;
 use libc::STDIN_FILENO;
@@ -30,8 +30,21 @@ fn said(a: Answer) -> Numbers {
 }
 
 // The image of a state, into `out`; the refusal's number.
-fn image_of(u: Vsu, out: &mut [u8]) -> u32 {
-    standing::refused(write_image(u, out))
+pub(crate) fn image_of(u: Vsu, out: &mut [u8]) -> u32 {
+    tally::refused(write_image(u, out))
+}
+
+fn power_on(out: &mut [u8]) -> u32 {
+    image_of(core::new(), out)
+}
+
+// The bytes read as an image: the answer, and into `out` the image of the state that came with it, which is always in range.
+fn reading(bytes: &[u8], out: &mut [u8]) -> Numbers {
+    let m = read_image(bytes);
+    let a = m.answer;
+    let u = m.state;
+    write_image(u, out);
+    said(a)
 }
 
 // The first place at which the bytes differ; the end where they do not.
@@ -46,11 +59,12 @@ fn first_difference(expected: &[u8], got: &[u8]) -> usize {
     i
 }
 
-fn same(r: Replay, what: &[u8], which: &[u8], expected: &[u8], got: &[u8]) -> Replay {
+// Whether an image is the one expected.
+fn held(t: Tally, what: &[u8], which: &[u8], expected: &[u8], got: &[u8]) -> Tally {
     let at = first_difference(expected, got);
     if at < expected.len() {
-        return standing::differs_at(
-            r,
+        return tally::differs_at(
+            t,
             what,
             which,
             at,
@@ -58,96 +72,51 @@ fn same(r: Replay, what: &[u8], which: &[u8], expected: &[u8], got: &[u8]) -> Re
             little::byte_at(got, at),
         );
     }
-    r
+    tally::checked(t)
 }
 
-// Whether a state has this image.
-fn held(r: Replay, what: &[u8], which: &[u8], expected: &[u8], u: Vsu) -> Replay {
-    let mut b = [0u8; 420];
-    let why = image_of(u, &mut b);
-    if why != 0 {
-        return standing::differs_in(r, what, b"refused", 0, why);
-    }
-    same(r, what, which, expected, &b)
-}
-
-fn check(r: Replay) -> Replay {
-    if r.going {
-        return standing::checked(r);
-    }
-    r
-}
-
-pub fn load(r: Replay) -> Replay {
-    let mut b = [0u8; 420];
-    if io::read_full(STDIN_FILENO, &mut b) < 420 {
-        return standing::cut_short(r);
-    }
-    let m = read_image(&b);
-    let a = m.answer;
-    let why = standing::refused(a);
-    if why != 0 {
-        return standing::differs(r, b"L refused", 0, why);
-    }
-    let u = m.state;
-    standing::begin(r, u)
-}
-
-pub fn state(r: Replay) -> Replay {
+fn state(t: Tally, image: &[u8]) -> Tally {
     let mut b = [0u8; 4];
     if io::read_full(STDIN_FILENO, &mut b) < 4 {
-        return standing::cut_short(r);
-    }
-    let mut bytes = [0u8; 420];
-    let u = r.unit;
-    let why = image_of(u, &mut bytes);
-    if why != 0 {
-        return standing::differs(r, b"S refused", 0, why);
+        return tally::cut_short(t);
     }
     let expected = little::u32_at(&b, 0);
-    let got = of_bytes(&bytes);
+    let got = of_bytes(image);
     if got != expected {
-        return standing::differs(r, b"S sum", expected, got);
+        return tally::differs(t, b"S sum", expected, got);
     }
-    standing::checked(r)
+    tally::checked(t)
 }
 
-pub fn whole(r: Replay) -> Replay {
+fn whole(t: Tally, image: &[u8]) -> Tally {
     let mut b = [0u8; 420];
     if io::read_full(STDIN_FILENO, &mut b) < 420 {
-        return standing::cut_short(r);
+        return tally::cut_short(t);
     }
-    let u = r.unit;
-    check(held(r, b"I", b"image", &b, u))
+    held(t, b"I", b"image", &b, image)
 }
 
 // "a refused image the power-on state"
-fn handed_back(r: Replay, what: &[u8], u: Vsu) -> Replay {
+fn handed_back(t: Tally, what: &[u8], image: &[u8]) -> Tally {
     let mut b = [0u8; 420];
-    let p = core::new();
-    let why = image_of(p, &mut b);
-    if why != 0 {
-        return standing::differs_in(r, what, b"refused", 0, why);
-    }
-    held(r, what, b"handed back", &b, u)
+    power_on(&mut b);
+    held(t, what, b"handed back", &b, image)
 }
 
 // The bytes read as an image: the answer, then the state.
-fn read(r: Replay, what: &[u8], bytes: &[u8], expected: Numbers) -> Replay {
-    let m = read_image(bytes);
-    let a = m.answer;
-    let got = said(a);
+fn read(t: Tally, what: &[u8], bytes: &[u8], expected: Numbers) -> Tally {
+    let mut image = [0u8; 420];
+    let got = reading(bytes, &mut image);
     if got.number != expected.number {
-        return standing::differs_in(r, what, b"number", expected.number, got.number);
+        return tally::differs_in(t, what, b"number", expected.number, got.number);
     }
     if got.carried != expected.carried {
-        return standing::differs_in(r, what, b"carried", expected.carried, got.carried);
+        return tally::differs_in(t, what, b"carried", expected.carried, got.carried);
     }
-    let u = m.state;
     if got.number == 0 {
-        return check(held(r, what, b"again", bytes, u));
+        return held(t, what, b"again", bytes, &image);
     }
-    check(handed_back(r, what, u))
+    handed_back(t, what, &image)
 }
 
 // An answer in a stream: u8 number, u16 carried.
@@ -159,52 +128,52 @@ fn answer_at(b: &[u8], at: u16) -> Numbers {
     }
 }
 
-fn with_byte(r: Replay, at: usize, value: u8, expected: Numbers) -> Replay {
-    let mut b = [0u8; 420];
-    let u = r.unit;
-    let why = image_of(u, &mut b);
-    if why != 0 {
-        return standing::differs(r, b"B refused", 0, why);
-    }
-    if at >= 420 {
-        return standing::broken(r, b"B is past the end");
-    }
-    b[at] = value;
-    read(r, b"B", &b, expected)
-}
-
-pub fn byte(r: Replay) -> Replay {
+// The image with a byte set.
+fn byte(t: Tally, image: &mut [u8]) -> Tally {
     let mut b = [0u8; 6];
     if io::read_full(STDIN_FILENO, &mut b) < 6 {
-        return standing::cut_short(r);
+        return tally::cut_short(t);
     }
     let at = little::u16_at(&b, 0) as usize;
-    with_byte(r, at, little::byte_at(&b, 2), answer_at(&b, 3))
+    if at >= image.len() {
+        return tally::broken(t, b"B is past the end");
+    }
+    image[at] = little::byte_at(&b, 2);
+    read(t, b"B", image, answer_at(&b, 3))
 }
 
-fn answered(r: Replay, bytes: &[u8]) -> Replay {
+// An op on the present state, whose image this is.
+pub(crate) fn asked(t: Tally, letter: u8, image: &mut [u8]) -> Tally {
+    match letter {
+        b'S' => state(t, image),
+        b'I' => whole(t, image),
+        _ => byte(t, image),
+    }
+}
+
+fn answered(t: Tally, bytes: &[u8]) -> Tally {
     let mut b = [0u8; 3];
     if io::read_full(STDIN_FILENO, &mut b) < 3 {
-        return standing::cut_short(r);
+        return tally::cut_short(t);
     }
-    read(r, b"D", bytes, answer_at(&b, 0))
+    read(t, b"D", bytes, answer_at(&b, 0))
 }
 
-fn sized(r: Replay, end: usize, space: &mut [u8]) -> Replay {
+fn sized(t: Tally, end: usize, space: &mut [u8]) -> Tally {
     if end > space.len() {
-        return standing::broken(r, b"D is too long");
+        return tally::broken(t, b"D is too long");
     }
     if io::read_full(STDIN_FILENO, &mut space[..end]) < end {
-        return standing::cut_short(r);
+        return tally::cut_short(t);
     }
-    answered(r, &space[..end])
+    answered(t, &space[..end])
 }
 
-pub fn bytes(r: Replay) -> Replay {
+pub(crate) fn bytes(t: Tally) -> Tally {
     let mut b = [0u8; 2];
     if io::read_full(STDIN_FILENO, &mut b) < 2 {
-        return standing::cut_short(r);
+        return tally::cut_short(t);
     }
     let mut space = [0u8; 1024];
-    sized(r, little::u16_at(&b, 0) as usize, &mut space)
+    sized(t, little::u16_at(&b, 0) as usize, &mut space)
 }

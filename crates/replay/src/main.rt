@@ -1,119 +1,212 @@
 // Replays a stream of the oracle (oracle/README.md) on the unit and its image, through their public calls. Prints one line: that
 // all agreed, or what differs first.
 mod images;
-mod standing;
+mod tally;
 
-use crate::standing::Replay;
+use crate::tally::Tally;
 use libc::STDIN_FILENO;
+use refusal::Answer;
 use report::sum::of_frames;
 use vsu::core;
+use vsu::core::Vsu;
 
-fn write_to(r: Replay, address: u32, byte: u8) -> Replay {
-    let u = r.unit;
-    let m = core::write(u, address, byte);
-    let a = m.answer;
-    let why = standing::refused(a);
-    if why != 0 {
-        return standing::differs(r, b"W refused", 0, why);
-    }
-    let v = m.state;
-    let mut t = r;
-    t.unit = v;
-    t
+// Where a replay stands.
+struct Replay {
+    unit: Vsu,
+    tally: Tally,
 }
 
-fn write(r: Replay) -> Replay {
-    let mut b = [0u8; 5];
-    if io::read_full(STDIN_FILENO, &mut b) < 5 {
-        return standing::cut_short(r);
+// What stands behind an op's letter: three numbers, the first byte of the second, and whether all of it came.
+struct Words {
+    a: u32,
+    b: u32,
+    c: u32,
+    byte: u8,
+    came: bool,
+}
+
+fn words_in(b: &[u8], came: bool) -> Words {
+    Words {
+        a: little::u32_at(b, 0),
+        b: little::u32_at(b, 4),
+        c: little::u32_at(b, 8),
+        byte: little::byte_at(b, 4),
+        came: came,
     }
-    write_to(r, little::u32_at(&b, 0), little::byte_at(&b, 4))
+}
+
+// A write's address and byte; a run's cycles, frames and sum; the cycles to advance.
+fn taken(letter: u8) -> Words {
+    let mut five = [0u8; 5];
+    let mut twelve = [0u8; 12];
+    let mut four = [0u8; 4];
+    match letter {
+        b'W' => {
+            let n = io::read_full(STDIN_FILENO, &mut five);
+            words_in(&five, n == 5)
+        }
+        b'R' => {
+            let n = io::read_full(STDIN_FILENO, &mut twelve);
+            words_in(&twelve, n == 12)
+        }
+        _ => {
+            let n = io::read_full(STDIN_FILENO, &mut four);
+            words_in(&four, n == 4)
+        }
+    }
+}
+
+fn write(u: Vsu, t: Tally, w: Words) -> Replay {
+    let m = core::write(u, w.a, w.byte);
+    let v = m.state;
+    let a = m.answer;
+    Replay {
+        unit: v,
+        tally: tally::accepted(t, b"W refused", tally::refused(a)),
+    }
 }
 
 // The run's answer, then the count of its frames, then their sum.
-fn run_for(r: Replay, n: u32, frames: u32, sum: u32, out: &mut [i16; 8192]) -> Replay {
-    let u = r.unit;
-    let m = core::run(u, n, out);
-    let a = m.answer;
-    let why = standing::refused(a);
+fn compared(t: Tally, w: Words, a: Answer, frames: u32, sum: u32) -> Tally {
+    let why = tally::refused(a);
     if why != 0 {
-        return standing::differs(r, b"R refused", 0, why);
+        return tally::differs(t, b"R refused", 0, why);
     }
-    if m.frames != frames {
-        return standing::differs(r, b"R frames", frames, m.frames);
+    if frames != w.b {
+        return tally::differs(t, b"R frames", w.b, frames);
     }
-    let got = of_frames(0, out, m.frames);
-    if got != sum {
-        return standing::differs(r, b"R sum", sum, got);
+    if sum != w.c {
+        return tally::differs(t, b"R sum", w.c, sum);
     }
+    tally::checked(tally::ran(t, w.a))
+}
+
+fn run(u: Vsu, t: Tally, w: Words, out: &mut [i16; 8192]) -> Replay {
+    let m = core::run(u, w.a, out);
     let v = m.state;
-    standing::checked(standing::ran(r, v, n))
-}
-
-fn run(r: Replay, out: &mut [i16; 8192]) -> Replay {
-    let mut b = [0u8; 12];
-    if io::read_full(STDIN_FILENO, &mut b) < 12 {
-        return standing::cut_short(r);
-    }
-    let n = little::u32_at(&b, 0);
-    let frames = little::u32_at(&b, 4);
-    let sum = little::u32_at(&b, 8);
-    run_for(r, n, frames, sum, out)
-}
-
-fn advance_by(r: Replay, n: u32) -> Replay {
-    let u = r.unit;
-    let m = core::advance(u, n);
     let a = m.answer;
-    let why = standing::refused(a);
-    if why != 0 {
-        return standing::differs(r, b"A refused", 0, why);
+    let sum = of_frames(0, out, m.frames);
+    Replay {
+        unit: v,
+        tally: compared(t, w, a, m.frames, sum),
     }
+}
+
+fn advance(u: Vsu, t: Tally, w: Words) -> Replay {
+    let m = core::advance(u, w.a);
     let v = m.state;
-    standing::ran(r, v, n)
-}
-
-fn advance(r: Replay) -> Replay {
-    let mut b = [0u8; 4];
-    if io::read_full(STDIN_FILENO, &mut b) < 4 {
-        return standing::cut_short(r);
+    let a = m.answer;
+    Replay {
+        unit: v,
+        tally: tally::accepted(tally::ran(t, w.a), b"A refused", tally::refused(a)),
     }
-    advance_by(r, little::u32_at(&b, 0))
 }
 
-fn op(r: Replay, letter: u8, out: &mut [i16; 8192]) -> Replay {
+// An op that moves the unit.
+fn moved(u: Vsu, t: Tally, letter: u8, out: &mut [i16; 8192]) -> Replay {
+    let w = taken(letter);
+    if !w.came {
+        return Replay {
+            unit: u,
+            tally: tally::cut_short(t),
+        };
+    }
     match letter {
-        b'P' => standing::begin(r, core::new()),
-        b'L' => images::load(r),
-        b'W' => write(r),
-        b'R' => run(r, out),
-        b'A' => advance(r),
-        b'S' => images::state(r),
-        b'I' => images::whole(r),
-        b'B' => images::byte(r),
-        b'D' => images::bytes(r),
-        b'E' => standing::agreed(r),
-        _ => standing::broken(r, b"is no op"),
+        b'W' => write(u, t, w),
+        b'R' => run(u, t, w, out),
+        _ => advance(u, t, w),
+    }
+}
+
+fn loaded(t: Tally, why: u32) -> Tally {
+    if why != 0 {
+        return tally::differs(t, b"L refused", 0, why);
+    }
+    tally::begin(t)
+}
+
+// A case that begins with an image.
+fn load(u: Vsu, t: Tally) -> Replay {
+    let mut b = [0u8; 420];
+    if io::read_full(STDIN_FILENO, &mut b) < 420 {
+        return Replay {
+            unit: u,
+            tally: tally::cut_short(t),
+        };
+    }
+    let m = image::read_image(&b);
+    let v = m.state;
+    let a = m.answer;
+    Replay {
+        unit: v,
+        tally: loaded(t, tally::refused(a)),
+    }
+}
+
+fn pictured(u: Vsu, t: Tally, letter: u8) -> Tally {
+    let mut image = [0u8; 420];
+    let why = images::image_of(u, &mut image);
+    if why != 0 {
+        return tally::differs(t, b"image refused", 0, why);
+    }
+    images::asked(t, letter, &mut image)
+}
+
+// An op that leaves the unit.
+fn asked(u: Vsu, t: Tally, letter: u8) -> Tally {
+    match letter {
+        b'S' | b'I' | b'B' => pictured(u, t, letter),
+        b'D' => images::bytes(t),
+        b'E' => tally::agreed(t),
+        _ => tally::broken(t, b"is no op"),
+    }
+}
+
+fn op(u: Vsu, t: Tally, letter: u8, out: &mut [i16; 8192]) -> Replay {
+    match letter {
+        b'P' => Replay {
+            unit: core::new(),
+            tally: tally::begin(t),
+        },
+        b'L' => load(u, t),
+        b'W' | b'R' | b'A' => moved(u, t, letter, out),
+        _ => Replay {
+            unit: u,
+            tally: asked(u, t, letter),
+        },
     }
 }
 
 fn next(r: Replay, out: &mut [i16; 8192]) -> Replay {
+    let u = r.unit;
+    let t = r.tally;
     let mut letter = [0u8; 1];
     if io::read_full(STDIN_FILENO, &mut letter) < 1 {
-        return standing::cut_short(r);
+        return Replay {
+            unit: u,
+            tally: tally::cut_short(t),
+        };
     }
-    let mut t = op(r, little::byte_at(&letter, 0), out);
-    t.op = std::num::wrapping_add_u64(t.op, 1);
-    t
+    let mut s = op(u, t, little::byte_at(&letter, 0), out);
+    let n = s.tally;
+    s.tally = tally::next(n);
+    s
+}
+
+fn start() -> Replay {
+    Replay {
+        unit: core::new(),
+        tally: tally::start(),
+    }
 }
 
 // A proved loop has to end, and nothing says that a stream does: so the turns are counted down, from a number that no run uses up.
 fn main() {
     let mut out = [0i16; 8192];
-    let mut r = standing::start();
+    let mut r = start();
     let mut turns = u64::MAX;
     while turns > 0 {
-        if !r.going {
+        if !r.tally.going {
             return;
         }
         r = next(r, &mut out);

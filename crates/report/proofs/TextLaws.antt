@@ -13,17 +13,17 @@ use lib.Seq.{sets, set-out, length-sets, take-suc, take-all}
 use Rattle.io.specs.Digits.{digits, glyph, Fewest}
 use Rattle.laws.proofs.Cases.{ways}
 use Rattle.little.proofs.LittleLaws.{sets-append, sets-out}
-use Rattle.report.specs.Text.{after, placesFrom, decimalOf, hexOf}
+use Rattle.report.specs.Text.{placeBehind, placesFrom, decimalOf, hexOf}
 
 -- what laying xs leaves: the place after it, and the buffer
 pub record Laid (l : List ℕ) (at : ℕ) (xs : List ℕ) (m : List ℕ) (r : ℕ) : Type 0 where
-  pub place : r ≡ after (length l) at (length xs)
+  pub place : r ≡ placeBehind (length l) at (length xs)
   pub held : m ≡ sets l at xs
 
 pub kept : {l : List ℕ} {at : ℕ} {xs m : List ℕ} {r : ℕ} → Laid l at xs m r → length m ≡ length l
 kept {l} {at} {xs} f = ap length (f .held) ∙ length-sets l at xs
 
-place-after : (size at i n : ℕ) → after size (after size at i) n ≡ after size at (i + n)
+place-after : (size at i n : ℕ) → placeBehind size (placeBehind size at i) n ≡ placeBehind size at (i + n)
 place-after size at i n = omega arith
 
 -- one piece after the other is both, also where they don't fit
@@ -53,7 +53,7 @@ pub full : (m : List ℕ) (r x : ℕ) → length m ≤ r → Laid m r (x ∷ [])
 full m r x h = record { place = omega arith; held = sym (set-out m r x h) }
 
 -- what a call says that it laid, of an equal text
-pub laid : (l : List ℕ) (at : ℕ) (xs : List ℕ) {ys m : List ℕ} {r : ℕ} → xs ≡ ys → (r ≡ after (length l) at (length xs)) × (m ≡ sets l at xs) → Laid l at ys m r
+pub laid : (l : List ℕ) (at : ℕ) (xs : List ℕ) {ys m : List ℕ} {r : ℕ} → xs ≡ ys → (r ≡ placeBehind (length l) at (length xs)) × (m ≡ sets l at xs) → Laid l at ys m r
 laid l at xs e p = rw (← e) (record { place = p .0; held = p .1 })
 
 -- a loop that lays a list from its front, each element as a text: a turn of it, and every element laid
@@ -64,7 +64,7 @@ module _ (f : List ℕ → List ℕ) (split : (xs ys : List ℕ) → f (xs ++ ys
       let c : Laid l at (f (take (i + 1) bs)) n s = rw (add-one i, take-suc bs i 0 h, split) (joined a b) in
       (omega arith, kept c, c)
 
-  pub all : length bs ≤ i → {m : List ℕ} {r : ℕ} → Laid l at (f (take i bs)) m r → (r ≡ after (length l) at (length (f bs))) × (m ≡ sets l at (f bs))
+  pub all : length bs ≤ i → {m : List ℕ} {r : ℕ} → Laid l at (f (take i bs)) m r → (r ≡ placeBehind (length l) at (length (f bs))) × (m ≡ sets l at (f bs))
   all h a = let e : f (take i bs) ≡ f bs = ap f (take-all i bs h) in (rw e at (a .place), rw e at (a .held))
 
 -- how many digits a number has

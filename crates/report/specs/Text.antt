@@ -5,9 +5,9 @@ use mathlib.Core.List.{List, [], _∷_, _++_}
 use lib.Dec.{ltb}
 use Rattle.io.specs.Digits.{digits, glyph}
 
--- the place after n bytes from a place on in a buffer of a size; what doesn't fit is left out
-abbrev pub after : ℕ → ℕ → ℕ → ℕ
-after size at n = max at (min (at + n) size)
+-- the place behind n bytes from a place on in a buffer of a size; what doesn't fit is left out
+abbrev pub placeBehind : ℕ → ℕ → ℕ → ℕ
+placeBehind size at n = max at (min (at + n) size)
 
 -- the fewest decimal digits that hold a number, from k on, tried `more` times
 unfoldable pub placesFrom : ℕ → ℕ → ℕ → ℕ

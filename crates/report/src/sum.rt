@@ -4,7 +4,7 @@ ghost use Prim.Native.Nat.{_*_, min};
 ghost use lib.ListN.{take};
 ghost use Rattle.report.specs.Sum.{fold, foldAll, foldSides, sideOf};
 
-pub fn fold(sum: u32, value: u32) -> u32
+fn fold(sum: u32, value: u32) -> u32
     ensures { λ r. ⌜ r ≡ fold sum value ⌝ }
 {
     ((sum as u64 * 31 + value as u64) % 1_000_000_007) as u32

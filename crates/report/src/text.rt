@@ -5,11 +5,11 @@ ghost use mathlib.Core.List.{_++_};
 ghost use lib.ListN.{length};
 ghost use lib.Seq.{sets};
 ghost use Rattle.refusal.specs.Refusal.{numberOf, carriedOf};
-ghost use Rattle.report.specs.Text.{after, decimalOf, hexOf, refusedOf};
+ghost use Rattle.report.specs.Text.{placeBehind, decimalOf, hexOf, refusedOf};
 use refusal::Refusal;
 
 pub fn words(out: &mut [u8], at: usize, text: &[u8]) -> usize
-    ensures { λ r. ⌜ r ≡ after (length (now (out .entry))) at (length (now (text .entry))) ⌝ }
+    ensures { λ r. ⌜ r ≡ placeBehind (length (now (out .entry))) at (length (now (text .entry))) ⌝ }
     ensures { λ _. ⌜ now (out .exit) ≡ sets (now (out .entry)) at (now (text .entry)) ⌝ }
 {
     let mut next = at;
@@ -26,7 +26,7 @@ pub fn words(out: &mut [u8], at: usize, text: &[u8]) -> usize
 
 // A number's decimal digits.
 pub fn number(out: &mut [u8], at: usize, n: u64) -> usize
-    ensures { λ r. ⌜ r ≡ after (length (now (out .entry))) at (length (decimalOf n)) ⌝ }
+    ensures { λ r. ⌜ r ≡ placeBehind (length (now (out .entry))) at (length (decimalOf n)) ⌝ }
     ensures { λ _. ⌜ now (out .exit) ≡ sets (now (out .entry)) at (decimalOf n) ⌝ }
 {
     let mut digits = [0u8; 20];
@@ -36,7 +36,7 @@ pub fn number(out: &mut [u8], at: usize, n: u64) -> usize
 
 // A number behind its words.
 pub fn labelled(out: &mut [u8], at: usize, text: &[u8], n: u64) -> usize
-    ensures { λ r. ⌜ r ≡ after (length (now (out .entry))) at (length (now (text .entry) ++ decimalOf n)) ⌝ }
+    ensures { λ r. ⌜ r ≡ placeBehind (length (now (out .entry))) at (length (now (text .entry) ++ decimalOf n)) ⌝ }
     ensures { λ _. ⌜ now (out .exit) ≡ sets (now (out .entry)) at (now (text .entry) ++ decimalOf n) ⌝ }
 {
     let a = words(out, at, text);
@@ -45,7 +45,7 @@ pub fn labelled(out: &mut [u8], at: usize, text: &[u8], n: u64) -> usize
 
 // Two lower-case hex digits for each byte.
 pub fn hex(out: &mut [u8], at: usize, bytes: &[u8]) -> usize
-    ensures { λ r. ⌜ r ≡ after (length (now (out .entry))) at (length (hexOf (now (bytes .entry)))) ⌝ }
+    ensures { λ r. ⌜ r ≡ placeBehind (length (now (out .entry))) at (length (hexOf (now (bytes .entry)))) ⌝ }
     ensures { λ _. ⌜ now (out .exit) ≡ sets (now (out .entry)) at (hexOf (now (bytes .entry))) ⌝ }
 {
     let mut next = at;
@@ -61,7 +61,7 @@ pub fn hex(out: &mut [u8], at: usize, bytes: &[u8]) -> usize
 
 // "A refusal prints `refused` with number and carried value, 0 where none is carried."
 pub fn refused(out: &mut [u8], at: usize, why: Refusal) -> usize
-    ensures { λ r. ⌜ r ≡ after (length (now (out .entry))) at (length (refusedOf (numberOf why) (carriedOf why))) ⌝ }
+    ensures { λ r. ⌜ r ≡ placeBehind (length (now (out .entry))) at (length (refusedOf (numberOf why) (carriedOf why))) ⌝ }
     ensures { λ _. ⌜ now (out .exit) ≡ sets (now (out .entry)) at (refusedOf (numberOf why) (carriedOf why)) ⌝ }
 {
     let a = labelled(out, at, b"refused ", refusal::number(why) as u64);

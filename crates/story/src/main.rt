@@ -3,8 +3,9 @@
 // the last byte of each register gives others: "Errors that look right".
 mod song;
 
+use deck::MEMORY_SIZE;
+use deck::Player;
 use libc::STDOUT_FILENO;
-use player::Player;
 use player::go_to;
 use player::open;
 use player::play;
@@ -201,6 +202,6 @@ fn story(log: &[u8], memory: &mut [u8]) {
 
 fn main() {
     let log = song::song();
-    let mut memory = [0u8; 6848];
+    let mut memory = [0u8; MEMORY_SIZE];
     story(&log, &mut memory);
 }

@@ -5,9 +5,9 @@ use vsu::core;
 use vsu::core::Vsu;
 
 // The table's 32 entries are read at the fast ticks, the last at cycle 32 × 19,201 = 614,432: in bar 1.
-pub const UPBEAT: u32 = 607_200;
+pub(crate) const UPBEAT: u32 = 607_200;
 
-pub const BAR: u32 = 12_000;
+pub(crate) const BAR: u32 = 12_000;
 
 // 32 samples, 32 modulation entries, 14 writes.
 const COUNT: u32 = 78;
@@ -65,7 +65,7 @@ fn lay_header(log: &mut [u8]) {
     little::put(log, 12, Width::U32, UPBEAT + 41 * BAR);
 }
 
-pub fn song() -> [u8; 640] {
+pub(crate) fn song() -> [u8; 640] {
     let mut log = [0u8; 640];
     lay_header(&mut log);
     let mut k = 0;
@@ -77,13 +77,15 @@ pub fn song() -> [u8; 640] {
 }
 
 // The unit after the last byte that an address was sent before a cycle, if it was sent one.
-pub fn sent(u: Vsu, log: &[u8], address: u32, before: u32) -> Vsu {
+pub(crate) fn sent(u: Vsu, log: &[u8], address: u32, before: u32) -> Vsu {
     let mut k = COUNT;
     while k > 0 {
         k -= 1;
         let w = write_at(log, k);
         if (w.due < before) & (w.address as u32 == address) {
-            return core::set_u8(u, address, w.byte);
+            let m = core::write(u, address, w.byte);
+            let v = m.state;
+            return v;
         }
     }
     u

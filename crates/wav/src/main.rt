@@ -1,11 +1,11 @@
 // The log on standard input as a 16-bit stereo WAV of its frames on standard output.
 mod riff;
 
+use deck::Player;
 use libc::STDERR_FILENO;
 use libc::STDIN_FILENO;
 use libc::STDOUT_FILENO;
 use log::Checked;
-use player::Player;
 use refusal::Refusal;
 use report::progress;
 use report::text;

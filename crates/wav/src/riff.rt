@@ -31,7 +31,7 @@ fn format(out: &mut [u8]) {
 }
 
 // The 44 bytes before the frames of a log's cycles. Power-on has output counter 0, so each 480 cycles make a frame.
-pub fn header(out: &mut [u8], cycles: u32) {
+pub(crate) fn header(out: &mut [u8], cycles: u32) {
     let data = BLOCK * (cycles / 480);
     chunk(out, 0, b"RIFF", 36 + data);
     text::words(out, 8, b"WAVE");
@@ -39,9 +39,9 @@ pub fn header(out: &mut [u8], cycles: u32) {
     chunk(out, 36, b"data", data);
 }
 
-// The bytes of a play's frames, as they are: "no smoothing and no scaling". The answer is their number. No play here makes more
+// The bytes of a play's frames, as they are: no smoothing and no scaling. The answer is their number. No play here makes more
 // than 1,024 frames; the test says so to the checker.
-pub fn frames(out: &mut [u8], sides: &[i16; 2048], made: u32) -> usize {
+pub(crate) fn frames(out: &mut [u8], sides: &[i16; 2048], made: u32) -> usize {
     let end = if made < 1024 {
         2 * (made as usize)
     } else {

@@ -1,7 +1,9 @@
--- The part that is lent is as long as what was read.
-use lib.Seq.{length-take-le}
-use mathlib.Core.Path.{sym}
+-- The space has as many bytes as it is made of, and what was taken lies in it.
 use borrow.Author.Needs.{needs}
+use Prim.Native.Nat.{ℕ}
+use mathlib.Core.Path.{sym}
+use lib.ListN.{length-replicate}
+use lib.Seq.{length-take-le}
 use Rattle.drive.proofs.drive_file.Statement.{statement}
 use Rattle.drive.proofs.drive_file.Tie as tie
 
@@ -14,35 +16,29 @@ fail-requires c κs = search needs
 returns : tie.Need-returns
 returns c = search needs
 
+slice-aggregate-take-file : tie.Need-slice-aggregate-take-file
+slice-aggregate-take-file c = sym (length-replicate {0} {A = ℕ} 1048577 0)
+
 take-file-requires : tie.Need-take-file-requires
 take-file-requires c κs = search needs
 
 refused-requires : tie.Need-refused-requires
 refused-requires c κs = search needs
 
-slice-reshare-prefix-drive : tie.Need-slice-reshare-prefix-drive
-slice-reshare-prefix-drive c = search needs
+array-share-prefix-space : tie.Need-array-share-prefix-space
+array-share-prefix-space c = c .before .before .before .before .take-file .ensures
 
 slice-aggregate-drive : tie.Need-slice-aggregate-drive
-slice-aggregate-drive c = sym (length-take-le _ _ (search needs))
+slice-aggregate-drive c = sym (length-take-le _ _ (c .before .before .before .before .before .take-file .ensures))
 
 drive-requires : tie.Need-drive-requires
 drive-requires c κs = search needs
 
-same-length : tie.Need-same-length
-same-length c = search needs
-
 returns-2 : tie.Need-returns-2
 returns-2 c = search needs
 
-same-length-2 : tie.Need-same-length-2
-same-length-2 c = search needs
-
 returns-3 : tie.Need-returns-3
 returns-3 c = search needs
-
-same-length-3 : tie.Need-same-length-3
-same-length-3 c = search needs
 
 returns-4 : tie.Need-returns-4
 returns-4 c = search needs
@@ -54,14 +50,12 @@ drive-file-spec =
     open-read-requires
     fail-requires
     returns
+    slice-aggregate-take-file
     take-file-requires
     refused-requires
-    slice-reshare-prefix-drive
+    array-share-prefix-space
     slice-aggregate-drive
     drive-requires
-    same-length
     returns-2
-    same-length-2
     returns-3
-    same-length-3
     returns-4)

@@ -5,7 +5,7 @@ use native.Mathlib.Omega.{arith}
 use borrow.Author.Needs.{needs}
 use mathlib.Core.Path.{sym, _∙_}
 use Rattle.log.proofs.ReaderLaws.{read-write, read-ended, read-refused}
-use Rattle.log.specs.Log.{first, entriesIn}
+use Rattle.log.specs.Log.{edition1, entriesIn}
 use Rattle.lister.proofs.entries.Statement.{statement}
 use Rattle.lister.proofs.entries.Tie as tie
 
@@ -29,7 +29,7 @@ enum-told-2 c = search needs
 
 returns : tie.Need-returns Inv-loop μ-loop
 returns c =
-    let e = read-ended first (now (c .before .before .before .before .before .args .log)) _ _ (sym (c .enum-told2 .given .1) ∙ c .before .before .read-on .ensures .0) in
+    let e = read-ended edition1 (now (c .before .before .before .before .before .args .log)) _ _ (sym (c .enum-told2 .given .1) ∙ c .before .before .read-on .ensures .0) in
     omega (arith, e, c .before .before .before .loop .inv)
 
 enum-told-3 : tie.Need-enum-told-3 Inv-loop μ-loop
@@ -37,17 +37,17 @@ enum-told-3 c = search needs
 
 returns-2 : tie.Need-returns-2 Inv-loop μ-loop
 returns-2 c =
-    let e = read-refused first (now (c .before .before .before .before .before .args .log)) _ _ (sym (c .enum-told3 .given .1) ∙ c .before .before .read-on .ensures .0) in
+    let e = read-refused edition1 (now (c .before .before .before .before .before .args .log)) _ _ (sym (c .enum-told3 .given .1) ∙ c .before .before .read-on .ensures .0) in
     omega (arith, e, c .before .before .before .loop .inv)
 
 loop-less : tie.Need-loop-less Inv-loop μ-loop
 loop-less c =
-    let e = read-write first (now (c .before .before .before .before .before .args .log)) _ _ (sym (c .enum-told .given .1) ∙ c .before .before .read-on .ensures .0) in
+    let e = read-write edition1 (now (c .before .before .before .before .before .args .log)) _ _ (sym (c .enum-told .given .1) ∙ c .before .before .read-on .ensures .0) in
     omega (arith, e .0, e .1, c .before .before .read-on .ensures .2)
 
 loop-again : tie.Need-loop-again Inv-loop μ-loop
 loop-again c =
-    let e = read-write first (now (c .before .before .before .before .before .args .log)) _ _ (sym (c .enum-told .given .1) ∙ c .before .before .read-on .ensures .0) in
+    let e = read-write edition1 (now (c .before .before .before .before .before .args .log)) _ _ (sym (c .enum-told .given .1) ∙ c .before .before .read-on .ensures .0) in
     omega (arith, e .0, e .1, c .before .before .read-on .ensures .2)
 
 pub entries-spec : {M : Type 1} → statement M

@@ -22,8 +22,8 @@ write-at-requires c κs = search needs
 cast-if1 : tie.Need-cast-if1 Inv-loop μ-loop
 cast-if1 c = search needs
 
-set-u8-requires : tie.Need-set-u8-requires Inv-loop μ-loop
-set-u8-requires c κs = search needs
+write-requires : tie.Need-write-requires Inv-loop μ-loop
+write-requires c κs = search needs
 
 returns : tie.Need-returns Inv-loop μ-loop
 returns c = search needs
@@ -47,7 +47,7 @@ sent-spec =
     sub-k
     write-at-requires
     cast-if1
-    set-u8-requires
+    write-requires
     returns
     loop-less
     loop-again
