@@ -5,16 +5,16 @@ use Prim.Native.Nat.{ℕ, suc, _+_, _-_, _*_, _/_, _<_, _≤_, suc-le-suc}
 use mathlib.Core.Path.{_≡_, refl, sym, ap, subst, _∙_}
 use mathlib.Core.Bool.{Bool, true, false, cond, not, _||_, true≢false}
 use mathlib.Core.List.{List, [], _∷_, _++_, append-assoc}
-use native.Mathlib.Nat.{add-sub-of-le, zero-add}
+use native.Mathlib.Nat.{zero-add}
 use native.Mathlib.Omega.{arith}
 use borrow.Author.Tests.{le-leb, leb-true, leb-false, le-ltb, ltb-false, eq-eqb, ne-eqb, eqb-true, eqb-false}
 use lib.Dec.{eqb, leb, ltb}
 use lib.IntN.{ℤ}
 use lib.ListN.{drop, length, set, take, take-append-drop, length-append}
-use lib.Seq.{drop-at, drop-drop, drop-set-add, drop-set-lt, getD-drop, length-sets, length-take-le, sets, sets-eq, take-at, take-set-le}
+use lib.Seq.{drop-at, drop-drop, getD-drop, length-sets, sets, take-at}
 use Rattle.laws.proofs.Cases.{each, ways}
 use Rattle.little.specs.Little.{bytes}
-use Rattle.little.proofs.LittleLaws.{bytes-length, front-below, front-bytes}
+use Rattle.little.proofs.LittleLaws.{bytes-length, front-below, front-bytes, sets-after, sets-before, sets-there}
 use Rattle.log.specs.Log.{checkOf, countOf, dueBefore, edition1, logAnswer}
 use Rattle.log.specs.declared.Checked.the-variants as checked
 use Rattle.log.specs.declared.Write.{Write}
@@ -40,27 +40,6 @@ use Rattle.deck.specs.Unbroken.{framesIn, framesOn, stateAt}
 use Rattle.deck.specs.declared.Player.{Player}
 use Rattle.deck.proofs.PlayerLaws.{clear-passed, go-to-passed, image-sound, play-passed, seek-passed, set-passed}
 use Rattle.deck.proofs.UnbrokenLaws.{bytes-of, due-most, due-none, frames-on-length, frames-span, state-add, state-keeps, state-run}
-
--- A run of stores, seen through a window that it does not touch, and through its own.
-
-module _ {A : Type 0} where
-  set-before : (l : List A) (i n j : ℕ) (a : A) → i + n ≤ j → take n (drop i (set l j a)) ≡ take n (drop i l)
-  set-before l i n j a h =
-      let e : j ≡ i + (j - i) = sym (add-sub-of-le (omega arith)) in
-      rw (e, drop-set-add i l (j - i) a) (take-set-le n (drop i l) (j - i) a (omega arith))
-
-  pub sets-before : (l : List A) (i n j : ℕ) (vs : List A) → i + n ≤ j → take n (drop i (sets l j vs)) ≡ take n (drop i l)
-  sets-before l i n j [] h = refl
-  sets-before l i n j (a ∷ vs) h = sets-before (set l j a) i n (suc j) vs (omega arith) ∙ set-before l i n j a h
-
-  pub sets-after : (l : List A) (i j : ℕ) (vs : List A) → j + length vs ≤ i → drop i (sets l j vs) ≡ drop i l
-  sets-after l i j [] h = refl
-  sets-after l i j (a ∷ vs) h = sets-after (set l j a) i (suc j) vs (omega arith) ∙ drop-set-lt i l j a (omega arith)
-
-  pub sets-there : (l : List A) (i n : ℕ) (vs : List A) → length vs ≡ n → i + n ≤ length l → take n (drop i (sets l i vs)) ≡ vs
-  sets-there l i n vs e h =
-      rw (sets-eq vs l i (omega arith), append-assoc (take i l) vs (drop (i + length vs) l), drop-at (take i l) (vs ++ drop (i + length vs) l) i (length-take-le i l (omega arith)))
-      (take-at vs (drop (i + length vs) l) n e)
 
 -- "it writes only that slot"
 pub other-slot : (l : List ℕ) (j k : ℕ) (vs : List ℕ) → length vs ≡ slotSize → (j ≡ k → ⊥) → take slotSize (drop (slotPlace j) (sets l (slotPlace k) vs)) ≡ take slotSize (drop (slotPlace j) l)

@@ -1,12 +1,12 @@
 -- Laws of specs/Little.antt.
-use Prim.Native.Nat.{ℕ, zero, suc, _+_, _*_, _/_, _%_, _^_, _<_, _≤_}
+use Prim.Native.Nat.{ℕ, zero, suc, _+_, _-_, _*_, _/_, _%_, _^_, _<_, _≤_}
 use mathlib.Core.Path.{_≡_, refl, sym, ap, _∙_}
-use mathlib.Core.List.{List, [], _∷_, _++_}
-use native.Mathlib.Nat.{pow-suc}
+use mathlib.Core.List.{List, [], _∷_, _++_, append-assoc}
+use native.Mathlib.Nat.{add-sub-of-le, pow-suc}
 use native.Mathlib.Numerals.{add-one}
 use native.Mathlib.Omega.{arith}
 use lib.ListN.{getD, set, take, drop, length, drop-of-length-le}
-use lib.Seq.{drop-nil, take-suc, take-all, length-take-le, sets, set-out, take-suc-set}
+use lib.Seq.{drop-at, drop-nil, drop-set-add, drop-set-lt, take-at, take-suc, take-all, length-take-le, sets, sets-eq, set-out, take-set-le, take-suc-set}
 use Rattle.little.specs.Little.{bytes, front, number}
 
 front-nil : (w : ℕ) → front w [] ≡ 0
@@ -54,6 +54,27 @@ sets-append l i (x ∷ xs) ys e = sets-append (set l i x) (suc i) xs ys (omega (
 pub sets-out : {A : Type 0} (l : List A) (i : ℕ) (xs : List A) → length l ≤ i → sets l i xs ≡ l
 sets-out l i [] h = refl
 sets-out l i (x ∷ xs) h = rw (set-out l i x h) (sets-out l (suc i) xs (omega arith))
+
+-- a run of stores, seen through a window that it does not touch, and through its own.
+
+module _ {A : Type 0} where
+  set-before : (l : List A) (i n j : ℕ) (a : A) → i + n ≤ j → take n (drop i (set l j a)) ≡ take n (drop i l)
+  set-before l i n j a h =
+      let e : j ≡ i + (j - i) = sym (add-sub-of-le (omega arith)) in
+      rw (e, drop-set-add i l (j - i) a) (take-set-le n (drop i l) (j - i) a (omega arith))
+
+  pub sets-before : (l : List A) (i n j : ℕ) (vs : List A) → i + n ≤ j → take n (drop i (sets l j vs)) ≡ take n (drop i l)
+  sets-before l i n j [] h = refl
+  sets-before l i n j (a ∷ vs) h = sets-before (set l j a) i n (suc j) vs (omega arith) ∙ set-before l i n j a h
+
+  pub sets-after : (l : List A) (i j : ℕ) (vs : List A) → j + length vs ≤ i → drop i (sets l j vs) ≡ drop i l
+  sets-after l i j [] h = refl
+  sets-after l i j (a ∷ vs) h = sets-after (set l j a) i (suc j) vs (omega arith) ∙ drop-set-lt i l j a (omega arith)
+
+  pub sets-there : (l : List A) (i n : ℕ) (vs : List A) → length vs ≡ n → i + n ≤ length l → take n (drop i (sets l i vs)) ≡ vs
+  sets-there l i n vs e h =
+      rw (sets-eq vs l i (omega arith), append-assoc (take i l) vs (drop (i + length vs) l), drop-at (take i l) (vs ++ drop (i + length vs) l) i (length-take-le i l (omega arith)))
+      (take-at vs (drop (i + length vs) l) n e)
 
 -- a loop that stores a list from its front: a turn of it, and the list stored
 

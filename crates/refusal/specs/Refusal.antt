@@ -1,11 +1,12 @@
--- Document 01's table of refusals: each case's number, and the value that it carries (0 where it carries none).
+-- Document 01's table of refusals, and after its sixteen those of document 02: each case's number, and the value that it carries (0
+-- where it carries none).
 use Prim.Native.Nat.{ℕ}
 use mathlib.Core.Path.{_≡_}
 use mathlib.Core.Bool.{Bool, true, false}
 use Rattle.refusal.specs.declared.Answer.{Answer}
 use Rattle.refusal.specs.declared.Answer.the-variants.{Accepted, Refused}
 use Rattle.refusal.specs.declared.Refusal.{Refusal}
-use Rattle.refusal.specs.declared.Refusal.the-variants.{State, Room, LogShort, LogEdition, LogHeader, LogCount, LogSize, LogEntry, ImageSize, ImageHeader, ImageField, BeyondEnd, Place, MarkNumber, MarkUnset, MarksFull}
+use Rattle.refusal.specs.declared.Refusal.the-variants.{State, Room, LogShort, LogEdition, LogHeader, LogCount, LogSize, LogEntry, ImageSize, ImageHeader, ImageField, BeyondEnd, Place, MarkNumber, MarkUnset, MarksFull, CycleEarlier, LengthShort}
 
 abbrev pub numberOf : Refusal → ℕ
 numberOf State = 1
@@ -24,6 +25,8 @@ numberOf Place = 13
 numberOf MarkNumber = 14
 numberOf MarkUnset = 15
 numberOf MarksFull = 16
+numberOf CycleEarlier = 17
+numberOf LengthShort = 18
 
 abbrev pub carriedOf : Refusal → ℕ
 carriedOf State = 0
@@ -42,6 +45,8 @@ carriedOf Place = 0
 carriedOf MarkNumber = 0
 carriedOf MarkUnset = 0
 carriedOf MarksFull = 0
+carriedOf CycleEarlier = 0
+carriedOf LengthShort = 0
 
 -- The same of an answer; an accepted call has number 0.
 

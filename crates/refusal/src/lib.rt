@@ -1,8 +1,8 @@
-// The refusals of document 01's table, once for the whole project.
+// The refusals of documents 01 and 02, once for the whole project.
 ghost use mathlib.Core.Path.{_≡_};
 ghost use Rattle.refusal.specs.Refusal.{numberOf, carriedOf};
 
-// One case for each number from 1 to 16, in the table's order.
+// One case for each number, in order: 1 to 16 are 01's table.
 pub enum Refusal {
     State,
     Room,
@@ -20,6 +20,8 @@ pub enum Refusal {
     MarkNumber,
     MarkUnset,
     MarksFull,
+    CycleEarlier,
+    LengthShort,
 }
 
 // How a call ended.
@@ -49,6 +51,8 @@ pub fn number(r: Refusal) -> u32
         Refusal::MarkNumber => 14, // there is no such mark
         Refusal::MarkUnset => 15, // the mark is not set
         Refusal::MarksFull => 16, // all marks are set
+        Refusal::CycleEarlier => 17, // the cycle is earlier than the last one
+        Refusal::LengthShort => 18, // the length is not above the last due cycle
     }
 }
 
@@ -73,5 +77,7 @@ pub fn carried(r: Refusal) -> u32
         Refusal::MarkNumber => 0,
         Refusal::MarkUnset => 0,
         Refusal::MarksFull => 0,
+        Refusal::CycleEarlier => 0,
+        Refusal::LengthShort => 0,
     }
 }
