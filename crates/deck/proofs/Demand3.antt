@@ -1,7 +1,7 @@
 -- Demand 3: after any play, seek, set, clear and go-to-mark calls from a fresh opening, refused ones among them, the player stands at
 -- the cycle the calls name, in the state that one unbroken run from power-on, cycle by cycle, has there. Each accepted play yields
 -- exactly that run's frames in its span.
-use Prim.Native.Nat.{ℕ, suc, _+_, _-_, _*_, _/_, _<_, _≤_, suc-le-suc}
+use Prim.Native.Nat.{ℕ, _+_, _-_, _*_, _/_, _<_, _≤_, suc-le-suc}
 use mathlib.Core.Path.{_≡_, refl, sym, ap, subst, _∙_}
 use mathlib.Core.Bool.{Bool, true, false, cond, not, _||_, true≢false}
 use mathlib.Core.List.{List, [], _∷_, _++_, append-assoc}

@@ -1,12 +1,11 @@
 -- Laws of specs/Encoder.antt: sound bytes are accepted, and a log made of writes reads back as those writes.
 use Prim.Native.Nat.{ℕ, zero, suc, _+_, _*_, _^_, _<_, _≤_}
 use mathlib.Core.Path.{_≡_, refl, sym, ap, subst, _∙_}
-use mathlib.Core.Bool.{Bool, true, false, not, _||_}
+use mathlib.Core.Bool.{false}
 use mathlib.Core.List.{List, [], _∷_, _++_, append-assoc, append-nil}
 use native.Mathlib.Nat.{mul-suc, mul-zero, zero-add}
 use native.Mathlib.Omega.{arith}
 use borrow.Author.Tests.{le-ltb, lt-leb, eq-eqb}
-use lib.Dec.{eqb, leb, ltb}
 use lib.ListN.{drop, getD, length, length-append}
 use lib.Seq.{drop-append-add, drop-at, drop-drop, ext-getD, getD-append-add, getD-drop}
 use Rattle.little.specs.Little.{bytes, front, number}
@@ -63,13 +62,19 @@ pub record Sound (l : Layout) (d : Write) (ws : List Write) (k : ℕ) : Type 0 w
 
 -- sizes
 
-header-length : (l : Layout) (n k : ℕ) → length (headerBytes l n k) ≡ 12 + l .due
+pub header-length : (l : Layout) (n k : ℕ) → length (headerBytes l n k) ≡ 12 + l .due
 unfolding headerBytes bytes
 header-length l n k = omega (arith, bytes-length (l .due) k)
 
-entry-length : (l : Layout) (w : Write) → length (entryBytes l w) ≡ l .due + 4
+pub entry-length : (l : Layout) (w : Write) → length (entryBytes l w) ≡ l .due + 4
 unfolding entryBytes bytes
 entry-length l w = length-append (bytes (l .due) (w .due)) _ ∙ omega (arith, bytes-length (l .due) (w .due))
+
+-- one entry more
+pub entries-append : (l : Layout) (ws : List Write) (w : Write) → entriesBytes l (ws ++ (w ∷ [])) ≡ entriesBytes l ws ++ entryBytes l w
+unfolding entriesBytes
+entries-append l [] w = append-nil (entryBytes l w)
+entries-append l (v ∷ ws) w = ap (λ (r : List ℕ). entryBytes l v ++ r) (entries-append l ws w) ∙ sym (append-assoc (entryBytes l v) (entriesBytes l ws) (entryBytes l w))
 
 module _ {l : Layout} (laid : Laid l) where
   pub entries-length : (ws : List Write) → length (entriesBytes l ws) ≡ l .entry * length ws
@@ -185,8 +190,8 @@ module _ {l : Layout} (laid : Laid l) (d : Write) where
           let p = entryPlace l i in
           rw (due-back l w log r p s (fits i h), address-back l w log r p s (fits i h), byte-back l w log r p s)
 
-      all-back : writesFrom l log (length ws) 0 ≡ ws
-      all-back =
+      pub entries-back : writesFrom l log (length ws) 0 ≡ ws
+      entries-back =
           ext-getD d (writesFrom l log (length ws) 0) ws (writes-length l log (length ws) 0)
           (λ i h.
           let g : i < length ws = rw (writes-length l log (length ws) 0) at h in
@@ -199,7 +204,7 @@ module _ {l : Layout} (laid : Laid l) (d : Write) where
 
       -- reading takes apart what the encoder put together
       pub writes-back : writesOf l log ≡ ws
-      writes-back = ap (λ (n : ℕ). writesFrom l log n 0) count-here ∙ all-back (s .fits)
+      writes-back = ap (λ (n : ℕ). writesFrom l log n 0) count-here ∙ entries-back (s .fits)
 
       due-here : (i : ℕ) → i < length ws → dueAt l log i ≡ getD ws i d .due
       unfolding writeAt

@@ -1,15 +1,15 @@
 -- Laws of specs/Recorder.antt.
 use Prim.Native.Nat.{ℕ, suc, _+_, _/_, _%_, _<_, _≤_}
 use mathlib.Core.Path.{_≡_, refl, sym, ap, _∙_}
-use mathlib.Core.Bool.{Bool, true, false, not, _&&_}
-use mathlib.Core.List.{List, [], _∷_, _++_, append-assoc}
+use mathlib.Core.Bool.{true, false, not, _&&_}
+use mathlib.Core.List.{List, [], _∷_, _++_}
 use native.Mathlib.Numerals.{add-one}
 use native.Mathlib.Omega.{arith}
 use borrow.Author.Tests.{le-leb, lt-leb, le-ltb, lt-ltb}
 use lib.Dec.{eqb, leb, ltb}
 use lib.Seq.{sets}
 use Rattle.little.specs.Little.{bytes}
-use Rattle.little.proofs.LittleLaws.{bytes-length, sets-append}
+use Rattle.little.proofs.LittleLaws.{sets-append}
 use Rattle.log.specs.Log.{Layout, edition1, entryPlace, mostEntries}
 use Rattle.log.specs.Encoder.{entryBytes, headerBytes}
 use Rattle.log.specs.declared.Write.{Write}
