@@ -28,7 +28,7 @@ use Rattle.refusal.specs.declared.Refusal.the-variants.{Room, LogCount, CycleEa
 use Rattle.refusal.proofs.RefusalLaws.{passed, was-sound}
 use Rattle.vsu.specs.Core.{allAtMost}
 use Rattle.recorder.specs.Recorder.{addAnswer, finishAnswer, givesBy, none, startAnswer}
-use Rattle.recording.specs.Recording.{Added, AllTyped, Call, Finished, Recorded, Tape, Typed, adds, addsAll, addsBy, after, afterAll, answerAt, answerOf, kept, lastDue, nothing}
+use Rattle.recording.specs.Recording.{Added, AllTyped, Call, Finished, NoStart, Recorded, Tape, Typed, adds, addsAll, addsBy, after, afterAll, answerAt, answerOf, kept, lastDue, nothing}
 use Rattle.recording.specs.Recording.Call.{start, add, finish}
 
 -- lists that grow at their end
@@ -394,3 +394,42 @@ pub recording : (t : Tape) (cs : List Call) → AllTyped cs → Recorded (t .buf
 unfolding after
 recording t cs y =
     held-recorded (t .buffer) _ _ (all-hold (t .buffer) cs y (after start t) nothing (begun t (startAnswer edition1 (length (t .buffer)))))
+
+-- "Nothing beyond the log's bytes is written": from one start to the next the longest log is the one at hand.
+
+module _ (room : ℕ) where
+  abbrev AtHand : Added → Type 0
+  AtHand m = m .longest ≡ length (m .writes)
+
+  add-at-hand : (w : Write) (m : Added) (a : Answer) → AtHand m → AtHand (addsBy a (add w) m)
+  unfolding addsBy adds
+  add-at-hand w m answer.Accepted e = omega (arith, e, longer-length (m .writes) w)
+  add-at-hand w m (answer.Refused why) e = e
+
+  finish-at-hand : (cycles : ℕ) (m : Added) (a : Answer) → AtHand m → AtHand (addsBy a (finish cycles) m)
+  unfolding addsBy adds
+  finish-at-hand cycles m answer.Accepted e = e
+  finish-at-hand cycles m (answer.Refused why) e = e
+
+  at-hand : (cs : List Call) → NoStart cs → (m : Added) → AtHand m → AtHand (addsAll room cs m)
+  unfolding addsAll
+  at-hand [] y m e = e
+  at-hand (start ∷ cs) y m e = absurd y
+  at-hand (add w ∷ cs) y m e = at-hand cs y _ (add-at-hand w m (answerAt room (add w) (m .writes)) e)
+  at-hand (finish cycles ∷ cs) y m e = at-hand cs y _ (finish-at-hand cycles m (answerAt room (finish cycles) (m .writes)) e)
+
+pub only-the-log : (t : Tape) (cs : List Call) → AllTyped cs → NoStart cs → drop (entryPlace edition1 (length (addsAll (length (t .buffer)) cs nothing .writes))) (afterAll cs (after start t) .buffer) ≡ drop (entryPlace edition1 (length (addsAll (length (t .buffer)) cs nothing .writes))) (t .buffer)
+only-the-log t cs y n = rw (at-hand (length (t .buffer)) cs n nothing refl) at (recording t cs y .spared)
+
+-- Worked: into 32 bytes, which hold two entries. The second add falls (17), the fourth has no room (2), the first finish is not above
+-- the last due cycle (18).
+abbrev turned : ℕ → ℕ → Call
+turned due byte = add (record { due = due; address = 1024; byte = byte })
+
+worked : addsAll 32 (turned 5 128 ∷ turned 4 0 ∷ turned 5 129 ∷ turned 9 0 ∷ finish 5 ∷ finish 6 ∷ []) nothing .writes ≡ (record { due = 5; address = 1024; byte = 128 } ∷ record { due = 5; address = 1024; byte = 129 } ∷ [])
+unfolding addsAll addsBy adds answerAt lastDue fault Rattle.refusal.specs.Refusal._then_
+worked = refl
+
+finish-worked : (answerAt 32 (finish 5) (record { due = 5; address = 1024; byte = 128 } ∷ []) ≡ answer.Refused LengthShort) × (answerAt 32 (finish 0) [] ≡ answer.Accepted)
+unfolding answerAt lastDue fault Rattle.refusal.specs.Refusal._then_
+finish-worked = (refl, refl)

@@ -2,7 +2,7 @@
 -- the last one returned, and nobody else writing the buffer. "What it finishes is accepted by the opener, and a player run over it
 -- passes through the states of a unit given those writes at those cycles from power-on. Nothing beyond the log's bytes is written. A
 -- finished log read entry by entry gives the writes added, in order."
-use Prim.Native.Nat.{ℕ, suc, max, _+_, _*_, _<_}
+use Prim.Native.Nat.{ℕ, suc, max, _<_}
 use mathlib.Core.Path.{_≡_}
 use mathlib.Core.Bool.{not, _&&_}
 use mathlib.Core.List.{List, [], _∷_, _++_}
@@ -80,15 +80,15 @@ lastDue (w ∷ v ∷ ws) = lastDue (v ∷ ws)
 
 -- the answer to a call there, in 02's order: with the writes since the start and the buffer's size
 unfoldable pub answerAt : ℕ → Call → List Write → Answer
-answerAt room start ws = fault (ltb room 16) Room
+answerAt room start ws = fault (ltb room (edition1 .header)) Room
 answerAt room (add w) ws =
     fault (ltb (w .due) (lastDue ws)) CycleEarlier
     then fault (leb mostEntries (length ws)) LogCount
-    then fault (ltb room (16 + 8 * suc (length ws))) Room
+    then fault (ltb room (entryPlace edition1 (suc (length ws)))) Room
 answerAt room (finish cycles) ws =
     fault (not (eqb (length ws) 0) && leb cycles (lastDue ws)) LengthShort
     then fault (ltb mostEntries (length ws)) LogCount
-    then fault (ltb room (16 + 8 * length ws)) Room
+    then fault (ltb room (entryPlace edition1 (length ws))) Room
 
 -- a start begins with no writes, an add adds its own behind the others
 unfoldable pub adds : Call → Added → Added
@@ -125,3 +125,10 @@ pub record Recorded (b : List ℕ) (t : Tape) (m : Added) : Type 0 where
   pub answers : (c : Call) → answerOf c t ≡ answerAt (length b) c (m .writes)
   pub spared : drop (entryPlace edition1 (m .longest)) (t .buffer) ≡ drop (entryPlace edition1 (m .longest)) b
   pub finishes : (cycles : ℕ) → Typed (finish cycles) → answerAt (length b) (finish cycles) (m .writes) ≡ Accepted → Finished (take (entryPlace edition1 (length (m .writes))) (after (finish cycles) t .buffer)) (m .writes) cycles
+
+-- adds and finishes alone, as between one start and the next
+abbrev pub NoStart : List Call → Type 0
+NoStart [] = Unit
+NoStart (start ∷ cs) = ⊥
+NoStart (add w ∷ cs) = NoStart cs
+NoStart (finish cycles ∷ cs) = NoStart cs
