@@ -1,4 +1,7 @@
 // A line as a call. A line that is not exactly one, as by another case, a second space or a sign, is `Unknown`.
+use check::same;
+use lines::words;
+use lines::words::Number;
 
 pub(crate) enum Call {
     Play(u32),
@@ -12,82 +15,27 @@ pub(crate) enum Call {
     Unknown,
 }
 
-// What stands behind a word.
-enum Argument {
-    Number(u32),
-    Other,
-}
-
-fn same(x: &[u8], y: &[u8]) -> bool {
-    if x.len() != y.len() {
-        return false;
-    }
-    let mut i = 0;
-    while i < x.len() {
-        if x[i] != y[i] {
-            return false;
-        }
-        i += 1;
-    }
-    true
-}
-
-// A digit's value; 10 for any other byte.
-fn digit(byte: u8) -> u64 {
-    if byte < b'0' {
-        return 10;
-    }
-    if byte > b'9' {
-        return 10;
-    }
-    (byte - b'0') as u64
-}
-
-// Leading zeros are allowed, so the digits are counted too.
-fn number_of(digits: &[u8]) -> Argument {
-    if (digits.len() == 0) | (digits.len() > 10) {
-        return Argument::Other;
-    }
-    let mut n: u64 = 0;
-    let mut i = 0;
-    while i < digits.len() {
-        let d = digit(digits[i]);
-        if d > 9 {
-            return Argument::Other;
-        }
-        n = 10 * n + d;
-        if n > 4_294_967_295 {
-            return Argument::Other;
-        }
-        i += 1;
-    }
-    Argument::Number(n as u32)
-}
-
 // The number behind a word, in a line that begins with it.
-fn behind(line: &[u8], word: &[u8]) -> Argument {
+fn behind(line: &[u8], word: &[u8]) -> Number {
     let k = word.len();
-    if line.len() < k {
-        return Argument::Other;
+    if words::begins(line, word) {
+        return words::decimal(&line[k..]);
     }
-    if !same(&line[..k], word) {
-        return Argument::Other;
-    }
-    number_of(&line[k..])
+    Number::Not
 }
 
 // A call with a slot.
 fn marking(line: &[u8]) -> Call {
     let set = behind(line, b"set ");
-    if let Argument::Number(slot) = set {
+    if let Number::Value(slot) = set {
         return Call::Set(slot);
     }
     let clear = behind(line, b"clear ");
-    if let Argument::Number(slot) = clear {
+    if let Number::Value(slot) = clear {
         return Call::Clear(slot);
     }
     let go_to = behind(line, b"goto ");
-    if let Argument::Number(slot) = go_to {
+    if let Number::Value(slot) = go_to {
         return Call::GoTo(slot);
     }
     Call::Unknown
@@ -96,11 +44,11 @@ fn marking(line: &[u8]) -> Call {
 // A call with a cycle or a number of cycles, else one with a slot.
 fn moving(line: &[u8]) -> Call {
     let play = behind(line, b"play ");
-    if let Argument::Number(cycles) = play {
+    if let Number::Value(cycles) = play {
         return Call::Play(cycles);
     }
     let seek = behind(line, b"seek ");
-    if let Argument::Number(target) = seek {
+    if let Number::Value(target) = seek {
         return Call::Seek(target);
     }
     marking(line)

@@ -7,26 +7,10 @@ use crate::output;
 use deck::MEMORY_SIZE;
 use deck::Player;
 use libc::STDIN_FILENO;
+use lines::input;
+use lines::input::Input;
 use refusal::Answer;
 use report::text;
-
-// Where the input stands: the next of the bytes that were read, how many were, how many are kept of a line, whether the line has ended,
-// and whether more may come.
-struct Input {
-    at: usize,
-    size: usize,
-    kept: usize,
-    ended: bool,
-    open: bool,
-}
-
-fn keep(line: &mut [u8], kept: usize, byte: u8) -> usize {
-    if kept < line.len() {
-        line[kept] = byte;
-        return kept + 1;
-    }
-    kept
-}
 
 fn call_in(line: &[u8; 17], kept: usize) -> Call {
     let front: &[u8] = line;
@@ -72,58 +56,21 @@ fn answered(
     q
 }
 
-// No byte more. A rest without a newline at the end is a line too: but of an input that failed, what was kept is no line.
-fn closed(i: Input, got: isize) -> Input {
-    let mut t = i;
-    t.open = false;
+fn failed(got: isize) -> bool {
     if got < 0 {
         os::fail(b"standard input");
-    } else {
-        t.ended = i.kept > 0;
+        return true;
     }
-    t
+    false
 }
 
-// The next bytes, when all that were read are used.
-fn filled(i: Input, bytes: &mut [u8]) -> Input {
-    let got = libc::read(STDIN_FILENO, bytes);
-    if got <= 0 {
-        return closed(i, got);
-    }
-    let mut t = i;
-    t.at = 0;
-    t.size = io::count(got, bytes);
-    t
-}
-
-// One byte on.
-fn stepped(i: Input, bytes: &[u8], line: &mut [u8]) -> Input {
-    let at = i.at;
-    let mut t = i;
-    if at < bytes.len() {
-        t.at = at + 1;
-        let b = bytes[at];
-        if b == b'\n' {
-            t.ended = true;
-        } else {
-            t.kept = keep(line, i.kept, b);
-        }
-    }
-    t
-}
-
+// The next byte, or, where all that were read are used, the next read.
 fn next(i: Input, bytes: &mut [u8; 4096], line: &mut [u8; 17]) -> Input {
     if i.at < i.size {
-        return stepped(i, bytes, line);
+        return input::stepped(i, bytes, line);
     }
-    filled(i, bytes)
-}
-
-fn begun(i: Input) -> Input {
-    let mut t = i;
-    t.kept = 0;
-    t.ended = false;
-    t
+    let got = libc::read(STDIN_FILENO, bytes);
+    input::filled(i, io::count(got, bytes), failed(got))
 }
 
 // A line is the bytes up to a newline; a rest without one at the end is a line too. The frame buffer holds 32,768 frames. A line that
@@ -136,19 +83,13 @@ pub(crate) fn run(log: &[u8]) {
     let mut sides = [0i16; 65536];
     let t = player::open(log);
     let mut p = t.player;
-    let mut i = Input {
-        at: 0,
-        size: 0,
-        kept: 0,
-        ended: false,
-        open: true,
-    };
+    let mut i = input::new();
     let mut left = u64::MAX;
-    while left > 0 && i.open {
+    while left > 0 && i.more {
         i = next(i, &mut bytes, &mut line);
         if i.ended {
             p = answered(p, call_in(&line, i.kept), log, &mut memory, &mut sides);
-            i = begun(i);
+            i = input::begun(i);
         }
         left -= 1;
     }

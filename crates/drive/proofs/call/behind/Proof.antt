@@ -1,47 +1,37 @@
--- The part that is lent is as long as the word.
-use lib.Seq.{length-take-le}
-use mathlib.Core.Path.{sym}
+-- A line that begins with a word is as long as the word at least.
 use borrow.Author.Needs.{needs}
 use Rattle.drive.proofs.call.behind.Statement.{statement}
 use Rattle.drive.proofs.call.behind.Tie as tie
 
+begins-requires : tie.Need-begins-requires
+begins-requires c κs = search needs
+
+sub-decimal : tie.Need-sub-decimal
+sub-decimal c = c .before .begins .ensures .1 .1 (c .if1 .taken)
+
+part-decimal-start : tie.Need-part-decimal-start
+part-decimal-start c = c .before .begins .ensures .1 .1 (c .if1 .taken)
+
+part-decimal-end : tie.Need-part-decimal-end
+part-decimal-end c = search needs
+
+decimal-requires : tie.Need-decimal-requires
+decimal-requires c κs = search needs
+
 returns : tie.Need-returns
 returns c = search needs
 
-slice-aggregate-same : tie.Need-slice-aggregate-same
-slice-aggregate-same c = sym (length-take-le _ _ (search needs))
-
-same-requires : tie.Need-same-requires
-same-requires c κs = search needs
-
 returns-2 : tie.Need-returns-2
 returns-2 c = search needs
-
-sub-number-of : tie.Need-sub-number-of
-sub-number-of c = search needs
-
-part-number-of-start : tie.Need-part-number-of-start
-part-number-of-start c = search needs
-
-part-number-of-end : tie.Need-part-number-of-end
-part-number-of-end c = search needs
-
-number-of-requires : tie.Need-number-of-requires
-number-of-requires c κs = search needs
-
-returns-3 : tie.Need-returns-3
-returns-3 c = search needs
 
 pub behind-spec : {M : Type 1} → statement M
 behind-spec =
     tie.close
     (tie.spec
+    begins-requires
+    sub-decimal
+    part-decimal-start
+    part-decimal-end
+    decimal-requires
     returns
-    slice-aggregate-same
-    same-requires
-    returns-2
-    sub-number-of
-    part-number-of-start
-    part-number-of-end
-    number-of-requires
-    returns-3)
+    returns-2)

@@ -12,6 +12,9 @@ abbrev μ-loop : tie.MeasureT-loop
 open-requires : tie.Need-open-requires Inv-loop μ-loop
 open-requires c κs = search needs
 
+new-requires : tie.Need-new-requires Inv-loop μ-loop
+new-requires c κs = search needs
+
 loop-holds : tie.Need-loop-holds Inv-loop μ-loop
 loop-holds c = search needs
 
@@ -49,6 +52,7 @@ run-spec =
     Inv-loop
     μ-loop
     open-requires
+    new-requires
     loop-holds
     next-requires
     call-in-requires
