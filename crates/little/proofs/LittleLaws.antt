@@ -6,7 +6,7 @@ use native.Mathlib.Nat.{add-sub-of-le, pow-suc}
 use native.Mathlib.Numerals.{add-one}
 use native.Mathlib.Omega.{arith}
 use lib.ListN.{getD, set, take, drop, length, drop-of-length-le}
-use lib.Seq.{drop-at, drop-nil, drop-set-add, drop-set-lt, take-at, take-suc, take-all, length-take-le, sets, sets-eq, set-out, take-set-le, take-suc-set}
+use lib.Seq.{drop-at, drop-drop, drop-nil, drop-set-add, drop-set-lt, take-at, take-suc, take-all, length-take-le, sets, sets-eq, set-out, take-set-le, take-suc-set}
 use Rattle.little.specs.Little.{bytes, front, number}
 
 front-nil : (w : ℕ) → front w [] ≡ 0
@@ -75,6 +75,12 @@ module _ {A : Type 0} where
   sets-there l i n vs e h =
       rw (sets-eq vs l i (omega arith), append-assoc (take i l) vs (drop (i + length vs) l), drop-at (take i l) (vs ++ drop (i + length vs) l) i (length-take-le i l (omega arith)))
       (take-at vs (drop (i + length vs) l) n e)
+
+  -- two lists that are the same from a place on are so from a later one
+  pub drop-later : (x y : List A) (i j : ℕ) → i ≤ j → drop i x ≡ drop i y → drop j x ≡ drop j y
+  drop-later x y i j h e =
+      let k : i + (j - i) ≡ j = add-sub-of-le h in
+      rw (← k) (sym (drop-drop (j - i) i x) ∙ ap (drop (j - i)) e ∙ drop-drop (j - i) i y)
 
 -- a loop that stores a list from its front: a turn of it, and the list stored
 

@@ -47,12 +47,12 @@ pub record Laid (l : Layout) : Type 0 where
 pub laid-1 : Laid edition1
 laid-1 = record { edition = omega arith; header = refl; small = omega arith; entry = refl }
 
--- a write whose numbers fit an entry
+-- a write whose due cycle and address fit their fields
 pub record Fits (l : Layout) (w : Write) : Type 0 where
   pub due : w .due < 256 ^ l .due
   pub address : w .address < 65536
 
--- Writes that make a log of length k: they fit, "due cycles never fall and are below L", "count at most 1,000,000".
+-- Writes that make a log of length k: they fit, "Due cycles never fall and are below L. Count at most 1,000,000".
 pub record Sound (l : Layout) (d : Write) (ws : List Write) (k : ℕ) : Type 0 where
   pub most : length ws ≤ mostEntries
   pub cycles : k < 256 ^ l .due
@@ -197,14 +197,15 @@ module _ {l : Layout} (laid : Laid l) (d : Write) where
           let g : i < length ws = rw (writes-length l log (length ws) 0) at h in
           writes-at l log (length ws) 0 i d g ∙ ap (writeAt l log) (zero-add i) ∙ write-back i g)
 
+      -- reading takes apart what the encoder put together, sound or not
+      pub writes-back : length ws < 4294967296 → writesOf l log ≡ ws
+      unfolding logOf
+      writes-back g = ap (λ (n : ℕ). writesFrom l log n 0) (count-back l (length ws) k (entriesBytes l ws) g) ∙ entries-back
+
     module _ (s : Sound l d ws k) where
       count-here : countOf log ≡ length ws
       unfolding logOf
       count-here = count-back l (length ws) k (entriesBytes l ws) (omega (arith, s .most))
-
-      -- reading takes apart what the encoder put together
-      pub writes-back : writesOf l log ≡ ws
-      writes-back = ap (λ (n : ℕ). writesFrom l log n 0) count-here ∙ entries-back (s .fits)
 
       due-here : (i : ℕ) → i < length ws → dueAt l log i ≡ getD ws i d .due
       unfolding writeAt

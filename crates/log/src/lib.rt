@@ -35,7 +35,8 @@ pub enum Counted {
     Refused(Refusal),
 }
 
-fn entry_place(index: u32) -> usize
+// Where an entry's bytes begin.
+pub fn entry_place(index: u32) -> usize
     ensures { λ r. ⌜ r ≡ entryPlace edition1 index ⌝ }
 {
     16 + 8 * (index as usize)

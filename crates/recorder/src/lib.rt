@@ -10,7 +10,7 @@ ghost use Rattle.log.specs.Encoder.{entryBytes, headerBytes};
 ghost use Rattle.refusal.specs.Refusal.{Tells};
 ghost use Rattle.recorder.specs.Recorder.{startAnswer, startOf, addAnswer, addOf, finishAnswer, finishOf};
 
-// How many entries there are, and the due cycle of the last.
+// How many entries there are, and the due cycle of the last; without entries `last` means nothing.
 pub struct Recorder {
     pub entries: u32,
     pub last: u32,
@@ -22,17 +22,11 @@ pub struct Turn {
     pub answer: Answer,
 }
 
-fn place(index: u32) -> usize
-    ensures { λ r. ⌜ r ≡ entryPlace edition1 index ⌝ }
-{
-    16 + 8 * (index as usize)
-}
-
 // How many bytes the log has.
 pub fn size(r: Recorder) -> usize
     ensures { λ n. ⌜ n ≡ entryPlace edition1 (r .entries) ⌝ }
 {
-    place(r.entries)
+    log::entry_place(r.entries)
 }
 
 fn refused(r: Recorder, why: Refusal) -> Turn
@@ -75,13 +69,13 @@ pub fn start(buffer: &mut [u8]) -> Turn
 fn put_entry(buffer: &mut [u8], index: u32, cycle: u32, address: u16, byte: u8)
     ensures { λ _. ⌜ now (buffer .exit) ≡ sets (now (buffer .entry)) (entryPlace edition1 index) (entryBytes edition1 (record { due = cycle; address = address; byte = byte })) ⌝ }
 {
-    let at = place(index);
+    let at = log::entry_place(index);
     little::put(buffer, at, Width::U32, cycle);
     little::put(buffer, at + 4, Width::U16, address as u32);
-    little::put(buffer, at + 6, Width::U16, byte as u32);
+    little::put(buffer, at + 6, Width::U16, byte as u32); // and the zero behind it
 }
 
-// A write at a cycle.
+// The next entry: a write and the cycle it is due at.
 pub fn add(r: Recorder, cycle: u32, address: u16, byte: u8, buffer: &mut [u8]) -> Turn
     ensures { λ t. ⌜ (t ≡ addOf edition1 r (record { due = cycle; address = address; byte = byte }) (now (buffer .entry)) .turn) × (now (buffer .exit) ≡ addOf edition1 r (record { due = cycle; address = address; byte = byte }) (now (buffer .entry)) .buffer) × Tells (t .answer) (addAnswer edition1 r cycle (length (now (buffer .entry)))) ⌝ }
 {
@@ -91,7 +85,7 @@ pub fn add(r: Recorder, cycle: u32, address: u16, byte: u8, buffer: &mut [u8]) -
     if r.entries >= 1_000_000 {
         return refused(r, Refusal::LogCount);
     }
-    if buffer.len() < place(r.entries + 1) {
+    if buffer.len() < log::entry_place(r.entries + 1) {
         return refused(r, Refusal::Room);
     }
     put_entry(buffer, r.entries, cycle, address, byte);
@@ -108,7 +102,7 @@ fn put_header(buffer: &mut [u8], count: u32, cycles: u32)
     little::put(buffer, 12, Width::U32, cycles);
 }
 
-// The log's length. More can be added afterwards, and finished again.
+// `cycles` is the log's length L. The record stays, so that more can be added and finished again.
 pub fn finish(r: Recorder, cycles: u32, buffer: &mut [u8]) -> Turn
     ensures { λ t. ⌜ (t ≡ finishOf edition1 r cycles (now (buffer .entry)) .turn) × (now (buffer .exit) ≡ finishOf edition1 r cycles (now (buffer .entry)) .buffer) × Tells (t .answer) (finishAnswer edition1 r cycles (length (now (buffer .entry)))) ⌝ }
 {
@@ -118,7 +112,7 @@ pub fn finish(r: Recorder, cycles: u32, buffer: &mut [u8]) -> Turn
     if r.entries > 1_000_000 {
         return refused(r, Refusal::LogCount);
     }
-    if buffer.len() < place(r.entries) {
+    if buffer.len() < log::entry_place(r.entries) {
         return refused(r, Refusal::Room);
     }
     put_header(buffer, r.entries, cycles);

@@ -4,9 +4,9 @@ use mathlib.Core.Path.{_≡_, refl, sym, ap, subst, _∙_}
 use mathlib.Core.Bool.{Bool, true, false, not, _&&_}
 use mathlib.Core.List.{List, [], _∷_, _++_}
 use native.Mathlib.Decide.{ℕ-discrete}
-use native.Mathlib.Nat.{add-sub-of-le, le-refl, le-trans}
+use native.Mathlib.Nat.{le-refl, le-trans}
 use native.Mathlib.Omega.{arith}
-use borrow.Author.Tests.{le-leb, le-ltb, leb-false, ltb-false, ltb-true, ne-eqb}
+use borrow.Author.Tests.{le-leb, le-ltb, leb-false, ltb-false, ne-eqb}
 use lib.Dec.{eqb, leb, ltb}
 use lib.ListN.{List·getD-append, drop, getD, length, length-append, take}
 use lib.Seq.{drop-drop, getD-at, length-sets, sets, take-add}
@@ -14,8 +14,8 @@ use Rattle.deck.specs.Calls as deck
 use Rattle.deck.proofs.Demand3.{demand-3, opens}
 use Rattle.laws.proofs.Cases.{both, each}
 use Rattle.little.specs.Little.{bytes}
-use Rattle.little.proofs.LittleLaws.{sets-after, sets-before, sets-there}
-use Rattle.log.specs.Log.{edition1, entryIn, entryOf, entryPlace, handed, mostEntries, writesOf}
+use Rattle.little.proofs.LittleLaws.{drop-later, sets-after, sets-before, sets-there}
+use Rattle.log.specs.Log.{Layout, edition1, entryIn, entryOf, entryPlace, handed, mostEntries, writesOf}
 use Rattle.log.specs.Encoder.{entriesBytes, entryBytes, headerBytes, logOf}
 use Rattle.log.specs.declared.Write.{Write}
 use Rattle.log.proofs.AcceptedLaws.{Accepted}
@@ -23,21 +23,21 @@ use Rattle.log.proofs.EncoderLaws.{Sound, accepts, entries-append, entries-back
 use Rattle.refusal.specs.Refusal.{fault}
 use Rattle.refusal.specs.declared.Answer.{Answer}
 use Rattle.refusal.specs.declared.Answer.the-variants as answer
-use Rattle.refusal.specs.declared.Refusal.{Refusal}
 use Rattle.refusal.specs.declared.Refusal.the-variants.{Room, LogCount, CycleEarlier, LengthShort}
 use Rattle.refusal.proofs.RefusalLaws.{passed, was-sound}
 use Rattle.vsu.specs.Core.{allAtMost}
 use Rattle.recorder.specs.Recorder.{addAnswer, finishAnswer, givesBy, none, startAnswer}
-use Rattle.recording.specs.Recording.{Added, AllTyped, Call, Finished, NoStart, Recorded, Tape, Typed, adds, addsAll, addsBy, after, afterAll, answerAt, answerOf, kept, lastDue, nothing}
+use Rattle.recorder.specs.declared.Recorder.{Recorder}
+use Rattle.recording.specs.Recording.{Added, AllTyped, Call, Finished, NoStart, Recorded, Tape, Typed, adds, addsAll, addsBy, after, afterAll, answerAt, answerOf, gives, kept, lastDue, nothing}
 use Rattle.recording.specs.Recording.Call.{start, add, finish}
 
 -- lists that grow at their end
 
-blank : Write
+abbrev pub blank : Write
 blank = record { due = 0; address = 0; byte = 0 }
 
 -- the write at a place
-abbrev nth : List Write → ℕ → Write
+abbrev pub nth : List Write → ℕ → Write
 nth ws i = getD ws i blank
 
 module _ (ws : List Write) (w : Write) where
@@ -67,19 +67,11 @@ last-longer [] w = refl
 last-longer (v ∷ []) w = refl
 last-longer (v ∷ x ∷ ws) w = last-longer (x ∷ ws) w
 
-empty : (ws : List Write) → length ws ≡ 0 → ws ≡ []
-empty [] h = refl
-empty (w ∷ ws) h = absurd (omega (arith, h))
-
-drop-later : (x y : List ℕ) (i j : ℕ) → i ≤ j → drop i x ≡ drop i y → drop j x ≡ drop j y
-drop-later x y i j h e =
-    let k : i + (j - i) ≡ j = add-sub-of-le h in
-    rw (← k) (sym (drop-drop (j - i) i x) ∙ ap (drop (j - i)) e ∙ drop-drop (j - i) i y)
-
-was-fault : (x : Bool) (why : Refusal) {told : Refusal} → fault x why ≡ answer.Refused told → x ≡ true
-unfolding fault
-was-fault true why e = refl
-was-fault false why e = cc
+-- the answer that a call hands out is its order's
+told : (a : Answer) (r q : Recorder) (b c : List ℕ) → givesBy a r b q c .turn .answer ≡ a
+unfolding givesBy
+told answer.Accepted r q b c = refl
+told (answer.Refused why) r q b c = refl
 
 -- a log's bytes are bytes
 
@@ -94,57 +86,58 @@ unfolding bytes allAtMost
 small-bytes zero v = refl
 small-bytes (suc w) v = both (le-leb (v % 256) 255 (omega arith)) (small-bytes w (v / 256))
 
-small-entry : (w : Write) → w .byte < 256 → allAtMost 255 (entryBytes edition1 w) ≡ true
-unfolding entryBytes allAtMost
-small-entry w h =
-    small-append 255 (bytes 4 (w .due)) (bytes 2 (w .address) ++ (w .byte ∷ 0 ∷ [])) (small-bytes 4 (w .due))
-    (small-append 255 (bytes 2 (w .address)) (w .byte ∷ 0 ∷ []) (small-bytes 2 (w .address)) (both (le-leb (w .byte) 255 (omega (arith, h))) refl))
+module _ (l : Layout) where
+  small-entry : (w : Write) → w .byte < 256 → allAtMost 255 (entryBytes l w) ≡ true
+  unfolding entryBytes allAtMost
+  small-entry w h =
+      small-append 255 (bytes (l .due) (w .due)) (bytes 2 (w .address) ++ (w .byte ∷ 0 ∷ [])) (small-bytes (l .due) (w .due))
+      (small-append 255 (bytes 2 (w .address)) (w .byte ∷ 0 ∷ []) (small-bytes 2 (w .address)) (both (le-leb (w .byte) 255 (omega (arith, h))) refl))
 
-small-entries : (ws : List Write) → ((i : ℕ) → i < length ws → nth ws i .byte < 256) → allAtMost 255 (entriesBytes edition1 ws) ≡ true
-unfolding entriesBytes allAtMost
-small-entries [] h = refl
-small-entries (w ∷ ws) h =
-    small-append 255 (entryBytes edition1 w) (entriesBytes edition1 ws) (small-entry w (h 0 (omega arith))) (small-entries ws (λ i g. h (suc i) (omega arith)))
+  small-entries : (ws : List Write) → ((i : ℕ) → i < length ws → nth ws i .byte < 256) → allAtMost 255 (entriesBytes l ws) ≡ true
+  unfolding entriesBytes allAtMost
+  small-entries [] h = refl
+  small-entries (w ∷ ws) h =
+      small-append 255 (entryBytes l w) (entriesBytes l ws) (small-entry w (h 0 (omega arith))) (small-entries ws (λ i g. h (suc i) (omega arith)))
 
-small-header : (n k : ℕ) → allAtMost 255 (headerBytes edition1 n k) ≡ true
-unfolding headerBytes
-small-header n k =
-    small-append 255 (bytes 2 1) _ (small-bytes 2 1)
-    (small-append 255 (bytes 2 16) _ (small-bytes 2 16)
-    (small-append 255 (bytes 4 n) _ (small-bytes 4 n)
-    (small-append 255 (bytes 4 16) _ (small-bytes 4 16) (small-bytes 4 k))))
+  pub small-log : (ws : List Write) (k : ℕ) → ((i : ℕ) → i < length ws → nth ws i .byte < 256) → allAtMost 255 (logOf l ws k) ≡ true
+  unfolding logOf headerBytes
+  small-log ws k h =
+      small-append 255 (headerBytes l (length ws) k) (entriesBytes l ws)
+      (small-append 255 (bytes 2 (l .edition)) _ (small-bytes 2 (l .edition))
+      (small-append 255 (bytes 2 (l .header)) _ (small-bytes 2 (l .header))
+      (small-append 255 (bytes 4 (length ws)) _ (small-bytes 4 (length ws))
+      (small-append 255 (bytes 4 (l .header)) _ (small-bytes 4 (l .header)) (small-bytes (l .due) k)))))
+      (small-entries ws h)
 
 -- What the calls keep.
 
 module _ (b : List ℕ) where
-  record Holds (t : Tape) (m : Added) : Type 0 where
+  pub record Holds (t : Tape) (m : Added) : Type 0 where
     pub entries : t .recorder .entries ≡ length (m .writes)
     pub last : t .recorder .last ≡ lastDue (m .writes)
     pub sized : length (t .buffer) ≡ length b
     pub most : length (m .writes) ≤ mostEntries
-    pub room : 0 < length (m .writes) → 16 + 8 * length (m .writes) ≤ length b
     pub typed : (i : ℕ) → i < length (m .writes) → Typed (add (nth (m .writes) i))
     pub low : (i : ℕ) → i < length (m .writes) → nth (m .writes) i .due ≤ lastDue (m .writes)
     pub rises : (i : ℕ) → suc i < length (m .writes) → nth (m .writes) i .due ≤ nth (m .writes) (suc i) .due
     pub held : take (8 * length (m .writes)) (drop 16 (t .buffer)) ≡ entriesBytes edition1 (m .writes)
-    pub within : length (m .writes) ≤ m .longest
-    pub spared : drop (entryPlace edition1 (m .longest)) (t .buffer) ≡ drop (entryPlace edition1 (m .longest)) b
+    pub within : entryPlace edition1 (length (m .writes)) ≤ m .longest
+    pub spared : drop (m .longest) (t .buffer) ≡ drop (m .longest) b
 
   -- no writes, and a buffer that is as it was
-  nothing-held : (t : Tape) (m : Added) → length (t .buffer) ≡ length b → drop (entryPlace edition1 (m .longest)) (t .buffer) ≡ drop (entryPlace edition1 (m .longest)) b → Holds (record { recorder = none; buffer = t .buffer }) (record { writes = []; longest = m .longest })
+  nothing-held : (t : Tape) (m : Added) → length (t .buffer) ≡ length b → edition1 .header ≤ m .longest → drop (m .longest) (t .buffer) ≡ drop (m .longest) b → Holds (record { recorder = none; buffer = t .buffer }) (record { writes = []; longest = m .longest })
   unfolding entriesBytes lastDue
-  nothing-held t m s p =
+  nothing-held t m s g p =
       record {
         entries = refl;
         last = refl;
         sized = s;
         most = omega arith;
-        room = λ h. absurd (omega (arith, h));
         typed = λ i h. absurd (omega (arith, h));
         low = λ i h. absurd (omega (arith, h));
         rises = λ i h. absurd (omega (arith, h));
         held = refl;
-        within = omega arith;
+        within = g;
         spared = p;
       }
 
@@ -159,27 +152,30 @@ module _ (b : List ℕ) where
     earlier-row cycle [] = sym (le-ltb cycle 0 (omega arith))
     earlier-row cycle (v ∷ vs) = rw (ne-eqb (length (v ∷ vs)) 0 (omega arith))
 
+    -- a call's order of refusals, by the record
+    abbrev order : Call → Answer
+    order start = startAnswer edition1 (length (t .buffer))
+    order (add w) = addAnswer edition1 (t .recorder) (w .due) (length (t .buffer))
+    order (finish cycles) = finishAnswer edition1 (t .recorder) cycles (length (t .buffer))
+
+    orders : (c : Call) → order c ≡ answerAt (length b) c ws
+    unfolding answerAt startAnswer addAnswer finishAnswer
+    orders start = rw (h .sized)
+    orders (add w) = rw (h .sized, h .entries, h .last, earlier-row (w .due) ws)
+    orders (finish cycles) = rw (h .sized, h .entries, h .last)
+
     answers : (c : Call) → answerOf c t ≡ answerAt (length b) c ws
-    unfolding answerOf answerAt startAnswer addAnswer finishAnswer
-    answers start = rw (h .sized)
-    answers (add w) = rw (h .sized, h .entries, h .last, earlier-row (w .due) ws)
-    answers (finish cycles) = rw (h .sized, h .entries, h .last)
+    unfolding gives
+    answers start = told (order start) _ _ _ _ ∙ orders start
+    answers (add w) = told (order (add w)) _ _ _ _ ∙ orders (add w)
+    answers (finish cycles) = told (order (finish cycles)) _ _ _ _ ∙ orders (finish cycles)
 
-    -- Start: accepted or not, it gives a record without entries. A refused one met too small a buffer for any add before it.
+    -- Start: accepted or not, it gives a record without entries.
 
-    no-room : length b < 16 → ws ≡ []
-    no-room l = empty ws (go (ℕ-discrete (length ws) 0))
-      where
-        go : Dec (length ws ≡ 0) → length ws ≡ 0
-        go (yes e) = e
-        go (no d) = absurd (omega (arith, h .room (omega (arith, d)), l))
-
-    start-by : (a : Answer) → answerAt (length b) start ws ≡ a → Holds (kept (givesBy a none (t .buffer) none (t .buffer))) (addsBy a start m)
-    unfolding givesBy addsBy adds answerAt
-    start-by answer.Accepted e = nothing-held t m (h .sized) (h .spared)
-    start-by (answer.Refused why) e =
-        subst (λ (vs : List Write). Holds (record { recorder = none; buffer = t .buffer }) (record { writes = vs; longest = m .longest })) (sym (no-room (ltb-true (length b) 16 (was-fault (ltb (length b) 16) Room e))))
-        (nothing-held t m (h .sized) (h .spared))
+    start-by : (a : Answer) → Holds (kept (givesBy a none (t .buffer) none (t .buffer))) (addsBy a start m)
+    unfolding givesBy addsBy adds
+    start-by answer.Accepted = nothing-held t m (h .sized) (omega (arith, h .within)) (h .spared)
+    start-by (answer.Refused why) = nothing-held t m (h .sized) (omega (arith, h .within)) (h .spared)
 
     -- Add.
 
@@ -234,15 +230,14 @@ module _ (b : List ℕ) where
               last = sym (last-longer ws w);
               sized = length-sets (t .buffer) place (entryBytes edition1 w) ∙ h .sized;
               most = omega (arith, longer-length ws w, g .count);
-              room = λ _. omega (arith, longer-length ws w, g .room);
               typed = all-longer ws w (λ (v : Write). Typed (add v)) (h .typed) typed;
               low = rw (last-longer ws w) (all-longer ws w (λ (v : Write). v .due ≤ w .due) (λ i l. le-trans (h .low i l) (g .later)) (le-refl _));
               rises = rises-more;
               held = held-more;
               within = omega (arith, longer-length ws w);
               spared =
-                  sets-after (t .buffer) (16 + 8 * max (m .longest) (suc (length ws))) place (entryBytes edition1 w) (omega (arith, entry-length edition1 w))
-                  ∙ drop-later (t .buffer) b (16 + 8 * m .longest) (16 + 8 * max (m .longest) (suc (length ws))) (omega arith) (h .spared);
+                  sets-after (t .buffer) (max (m .longest) (16 + 8 * suc (length ws))) place (entryBytes edition1 w) (omega (arith, entry-length edition1 w))
+                  ∙ drop-later (t .buffer) b (m .longest) (max (m .longest) (16 + 8 * suc (length ws))) (omega arith) (h .spared);
             }
 
       add-by : (a : Answer) → answerAt (length b) (add w) ws ≡ a → Holds (kept (givesBy a (t .recorder) (t .buffer) (record { entries = suc (t .recorder .entries); last = w .due }) (sets (t .buffer) (entryPlace edition1 (t .recorder .entries)) (entryBytes edition1 w)))) (addsBy a (add w) m)
@@ -267,13 +262,12 @@ module _ (b : List ℕ) where
             last = h .last;
             sized = length-sets (t .buffer) 0 (headerBytes edition1 (length ws) cycles) ∙ h .sized;
             most = h .most;
-            room = h .room;
             typed = h .typed;
             low = h .low;
             rises = h .rises;
             held = ap (take (8 * length ws)) (past-header 16 (omega arith)) ∙ h .held;
             within = h .within;
-            spared = past-header (16 + 8 * m .longest) (omega arith) ∙ h .spared;
+            spared = past-header (m .longest) (omega (arith, h .within)) ∙ h .spared;
           }
 
       finish-by : (a : Answer) → Holds (kept (givesBy a (t .recorder) (t .buffer) (t .recorder) (sets (t .buffer) 0 (headerBytes edition1 (t .recorder .entries) cycles)))) (addsBy a (finish cycles) m)
@@ -282,14 +276,14 @@ module _ (b : List ℕ) where
       finish-by (answer.Refused why) = h
 
     -- Every call keeps it.
-    answered-holds : (c : Call) → Typed c → Holds (after c t) (addsBy (answerOf c t) c m)
-    unfolding after answerOf
-    answered-holds start y = start-by (answerOf start t) (sym (answers start))
-    answered-holds (add w) y = add-by w y (answerOf (add w) t) (sym (answers (add w)))
-    answered-holds (finish cycles) y = finish-by cycles (answerOf (finish cycles) t)
+    answered-holds : (c : Call) → Typed c → Holds (after c t) (addsBy (order c) c m)
+    unfolding gives
+    answered-holds start y = start-by (order start)
+    answered-holds (add w) y = add-by w y (order (add w)) (sym (orders (add w)))
+    answered-holds (finish cycles) y = finish-by cycles (order (finish cycles))
 
-    step-holds : (c : Call) → Typed c → Holds (after c t) (addsBy (answerAt (length b) c ws) c m)
-    step-holds c y = subst (λ (a : Answer). Holds (after c t) (addsBy a c m)) (answers c) (answered-holds c y)
+    pub step-holds : (c : Call) → Typed c → Holds (after c t) (addsBy (answerAt (length b) c ws) c m)
+    step-holds c y = subst (λ (a : Answer). Holds (after c t) (addsBy a c m)) (orders c) (answered-holds c y)
 
     -- What an accepted finish leaves.
 
@@ -332,18 +326,17 @@ module _ (b : List ℕ) where
           ∙ ap (λ (r : List ℕ). headerBytes edition1 (length ws) cycles ++ r) (finish-holds cycles .held)
 
       left : take (16 + 8 * length ws) (after (finish cycles) t .buffer) ≡ log
-      unfolding after givesBy answerOf
-      left = rw (answers (finish cycles) ∙ accepted, h .entries) log-held
+      unfolding gives givesBy
+      left = rw (orders (finish cycles) ∙ accepted, h .entries) log-held
 
       accepted-log : Accepted edition1 log (length ws) cycles
       accepted-log = log-sound laid-1 blank ws cycles sound
 
       small : allAtMost 255 log ≡ true
-      unfolding logOf
-      small = small-append 255 (headerBytes edition1 (length ws) cycles) (entriesBytes edition1 ws) (small-header (length ws) cycles) (small-entries ws (λ i l. h .typed i l .2))
+      small = small-log edition1 ws cycles (λ i l. h .typed i l .2)
 
       reads : writesOf edition1 log ≡ ws
-      reads = writes-back laid-1 blank ws cycles sound
+      reads = writes-back laid-1 blank ws cycles (sound .fits) (omega (arith, h .most))
 
       read-on : (i : ℕ) → entryOf edition1 log i ≡ handed ws i
       unfolding entryIn
@@ -369,7 +362,7 @@ module _ (b : List ℕ) where
       finished : Finished (take (16 + 8 * length ws) (after (finish cycles) t .buffer)) ws cycles
       finished = subst (λ (x : List ℕ). Finished x ws cycles) (sym left) of-log
 
-    held-recorded : Recorded b t m
+    pub held-recorded : Recorded b t m
     held-recorded =
         record {
           entries = h .entries;
@@ -384,14 +377,14 @@ module _ (b : List ℕ) where
   all-hold [] y t m h = h
   all-hold (c ∷ cs) y t m h = all-hold cs (y .1) (after c t) (addsBy (answerAt (length b) c (m .writes)) c m) (step-holds t m h c (y .0))
 
-begun : (t : Tape) (a : Answer) → Holds (t .buffer) (kept (givesBy a none (t .buffer) none (t .buffer))) nothing
+pub begun : (t : Tape) (a : Answer) → Holds (t .buffer) (kept (givesBy a none (t .buffer) none (t .buffer))) nothing
 unfolding givesBy
-begun t answer.Accepted = nothing-held (t .buffer) t nothing refl refl
-begun t (answer.Refused why) = nothing-held (t .buffer) t nothing refl refl
+begun t answer.Accepted = nothing-held (t .buffer) t nothing refl (omega arith) refl
+begun t (answer.Refused why) = nothing-held (t .buffer) t nothing refl (omega arith) refl
 
 -- The recording, whatever record and buffer there were before its first start.
 pub recording : (t : Tape) (cs : List Call) → AllTyped cs → Recorded (t .buffer) (afterAll cs (after start t)) (addsAll (length (t .buffer)) cs nothing)
-unfolding after
+unfolding gives
 recording t cs y =
     held-recorded (t .buffer) _ _ (all-hold (t .buffer) cs y (after start t) nothing (begun t (startAnswer edition1 (length (t .buffer)))))
 
@@ -399,7 +392,7 @@ recording t cs y =
 
 module _ (room : ℕ) where
   abbrev AtHand : Added → Type 0
-  AtHand m = m .longest ≡ length (m .writes)
+  AtHand m = m .longest ≡ entryPlace edition1 (length (m .writes))
 
   add-at-hand : (w : Write) (m : Added) (a : Answer) → AtHand m → AtHand (addsBy a (add w) m)
   unfolding addsBy adds

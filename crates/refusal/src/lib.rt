@@ -2,7 +2,7 @@
 ghost use mathlib.Core.Path.{_≡_};
 ghost use Rattle.refusal.specs.Refusal.{numberOf, carriedOf};
 
-// One case for each number, in order: 1 to 16 are 01's table.
+// One case for each number, in order: 1 to 16 are 01's table, 17 and 18 are 02's.
 pub enum Refusal {
     State,
     Room,
@@ -30,7 +30,7 @@ pub enum Answer {
     Refused(Refusal),
 }
 
-// 01's number; the words beside it are what `./vsu` says of a refused log.
+// The number; the words beside it are what `./vsu` says of a refusal.
 pub fn number(r: Refusal) -> u32
     ensures { λ n. ⌜ n ≡ numberOf r ⌝ }
 {
@@ -51,7 +51,7 @@ pub fn number(r: Refusal) -> u32
         Refusal::MarkNumber => 14, // there is no such mark
         Refusal::MarkUnset => 15, // the mark is not set
         Refusal::MarksFull => 16, // all marks are set
-        Refusal::CycleEarlier => 17, // the cycle is earlier than the last one
+        Refusal::CycleEarlier => 17, // the cycle is earlier than the one before it
         Refusal::LengthShort => 18, // the length is not above the last due cycle
     }
 }

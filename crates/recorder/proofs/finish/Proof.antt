@@ -20,14 +20,14 @@ refused-requires-2 c κs = search needs
 returns-2 : tie.Need-returns-2
 returns-2 c = laws.refuses (c .before .before .before .before .before .before .before .args .r) (c .before .before .before .before .before .before .before .args .r) (now (c .before .before .before .before .before .before .before .args .buffer)) (sets (now (c .before .before .before .before .before .before .before .args .buffer)) 0 (headerBytes edition1 (c .before .before .before .before .before .before .before .args .r .entries) (c .before .before .before .before .before .before .before .args .cycles))) (laws.finish-full edition1 (length (now (c .before .before .before .before .before .before .before .args .buffer))) (c .before .before .before .before .before .before .before .args .r) (c .before .before .before .before .before .before .before .args .cycles) (c .before .before .before .if1 .left) (c .before .if2 .taken)) (c .refused2 .ensures)
 
-place-requires : tie.Need-place-requires
-place-requires c κs = search needs
+entry-place-requires : tie.Need-entry-place-requires
+entry-place-requires c κs = search needs
 
 refused-requires-3 : tie.Need-refused-requires-3
 refused-requires-3 c κs = search needs
 
 returns-3 : tie.Need-returns-3
-returns-3 c = laws.refuses (c .before .before .before .before .before .before .before .before .before .args .r) (c .before .before .before .before .before .before .before .before .before .args .r) (now (c .before .before .before .before .before .before .before .before .before .args .buffer)) (sets (now (c .before .before .before .before .before .before .before .before .before .args .buffer)) 0 (headerBytes edition1 (c .before .before .before .before .before .before .before .before .before .args .r .entries) (c .before .before .before .before .before .before .before .before .before .args .cycles))) (laws.finish-roomless edition1 (length (now (c .before .before .before .before .before .before .before .before .before .args .buffer))) (c .before .before .before .before .before .before .before .before .before .args .r) (c .before .before .before .before .before .before .before .before .before .args .cycles) (c .before .before .before .before .before .if1 .left) (c .before .before .before .if2 .left) (c .before .before .place .ensures) (c .before .if3 .taken)) (c .refused3 .ensures)
+returns-3 c = laws.refuses (c .before .before .before .before .before .before .before .before .before .args .r) (c .before .before .before .before .before .before .before .before .before .args .r) (now (c .before .before .before .before .before .before .before .before .before .args .buffer)) (sets (now (c .before .before .before .before .before .before .before .before .before .args .buffer)) 0 (headerBytes edition1 (c .before .before .before .before .before .before .before .before .before .args .r .entries) (c .before .before .before .before .before .before .before .before .before .args .cycles))) (laws.finish-roomless edition1 (length (now (c .before .before .before .before .before .before .before .before .before .args .buffer))) (c .before .before .before .before .before .before .before .before .before .args .r) (c .before .before .before .before .before .before .before .before .before .args .cycles) (c .before .before .before .before .before .if1 .left) (c .before .before .before .if2 .left) (c .before .before .entry-place .ensures) (c .before .if3 .taken)) (c .refused3 .ensures)
 
 put-header-requires : tie.Need-put-header-requires
 put-header-requires c κs = search needs
@@ -39,7 +39,7 @@ same-length : tie.Need-same-length
 same-length c = search needs
 
 returns-4 : tie.Need-returns-4
-returns-4 c = laws.takes (c .before .before .before .before .before .before .before .before .before .before .before .before .before .args .r) (c .before .before .before .before .before .before .before .before .before .before .before .before .before .args .r) (now (c .before .before .before .before .before .before .before .before .before .before .before .before .before .args .buffer)) (sets (now (c .before .before .before .before .before .before .before .before .before .before .before .before .before .args .buffer)) 0 (headerBytes edition1 (c .before .before .before .before .before .before .before .before .before .before .before .before .before .args .r .entries) (c .before .before .before .before .before .before .before .before .before .before .before .before .before .args .cycles))) (laws.finish-passes edition1 (length (now (c .before .before .before .before .before .before .before .before .before .before .before .before .before .args .buffer))) (c .before .before .before .before .before .before .before .before .before .before .before .before .before .args .r) (c .before .before .before .before .before .before .before .before .before .before .before .before .before .args .cycles) (c .before .before .before .before .before .before .before .before .before .if1 .left) (c .before .before .before .before .before .before .before .if2 .left) (c .before .before .before .before .before .before .place .ensures) (c .before .before .before .before .before .if3 .left)) (c .accepted .ensures) (c .before .before .before .put-header .ensures)
+returns-4 c = laws.takes (c .before .before .before .before .before .before .before .before .before .before .before .before .before .args .r) (c .before .before .before .before .before .before .before .before .before .before .before .before .before .args .r) (now (c .before .before .before .before .before .before .before .before .before .before .before .before .before .args .buffer)) (sets (now (c .before .before .before .before .before .before .before .before .before .before .before .before .before .args .buffer)) 0 (headerBytes edition1 (c .before .before .before .before .before .before .before .before .before .before .before .before .before .args .r .entries) (c .before .before .before .before .before .before .before .before .before .before .before .before .before .args .cycles))) (laws.finish-passes edition1 (length (now (c .before .before .before .before .before .before .before .before .before .before .before .before .before .args .buffer))) (c .before .before .before .before .before .before .before .before .before .before .before .before .before .args .r) (c .before .before .before .before .before .before .before .before .before .before .before .before .before .args .cycles) (c .before .before .before .before .before .before .before .before .before .if1 .left) (c .before .before .before .before .before .before .before .if2 .left) (c .before .before .before .before .before .before .entry-place .ensures) (c .before .before .before .before .before .if3 .left)) (c .accepted .ensures) (c .before .before .before .put-header .ensures)
 
 pub finish-spec : {M : Type 1} → statement M
 finish-spec =
@@ -49,7 +49,7 @@ finish-spec =
     returns
     refused-requires-2
     returns-2
-    place-requires
+    entry-place-requires
     refused-requires-3
     returns-3
     put-header-requires

@@ -5,8 +5,8 @@ use borrow.Author.Needs.{needs}
 use Rattle.recorder.proofs.put_entry.Statement.{statement}
 use Rattle.recorder.proofs.put_entry.Tie as tie
 
-place-requires : tie.Need-place-requires
-place-requires c κs = search needs
+entry-place-requires : tie.Need-entry-place-requires
+entry-place-requires c κs = search needs
 
 put-requires : tie.Need-put-requires
 put-requires c κs = search needs
@@ -27,13 +27,13 @@ same-length : tie.Need-same-length
 same-length c = search needs
 
 returns : tie.Need-returns
-returns c = laws.puts-entry (now (c .before .before .before .before .before .before .before .before .before .before .before .before .before .before .args .buffer)) (record { due = (c .before .before .before .before .before .before .before .before .before .before .before .before .before .before .args .cycle); address = (c .before .before .before .before .before .before .before .before .before .before .before .before .before .before .args .address); byte = (c .before .before .before .before .before .before .before .before .before .before .before .before .before .before .args .byte) }) (c .before .before .before .before .before .before .before .before .before .before .before .before .before .before .args .index) (omega (arith, (c .before .before .before .before .before .before .before .before .before .before .before .before .before .before .fits .byte))) (c .before .before .before .before .before .before .before .before .before .before .before .before .place .ensures) (c .before .before .before .before .before .before .before .before .before .before .put .ensures) (c .before .before .before .before .before .before .put2 .ensures) (c .before .before .put3 .ensures)
+returns c = laws.puts-entry (now (c .before .before .before .before .before .before .before .before .before .before .before .before .before .before .args .buffer)) (record { due = (c .before .before .before .before .before .before .before .before .before .before .before .before .before .before .args .cycle); address = (c .before .before .before .before .before .before .before .before .before .before .before .before .before .before .args .address); byte = (c .before .before .before .before .before .before .before .before .before .before .before .before .before .before .args .byte) }) (c .before .before .before .before .before .before .before .before .before .before .before .before .before .before .args .index) (omega (arith, (c .before .before .before .before .before .before .before .before .before .before .before .before .before .before .fits .byte))) (c .before .before .before .before .before .before .before .before .before .before .before .before .entry-place .ensures) (c .before .before .before .before .before .before .before .before .before .before .put .ensures) (c .before .before .before .before .before .before .put2 .ensures) (c .before .before .put3 .ensures)
 
 pub put-entry-spec : {M : Type 1} → statement M
 put-entry-spec =
     tie.close
     (tie.spec
-    place-requires
+    entry-place-requires
     put-requires
     add-put
     put-requires-2
