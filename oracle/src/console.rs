@@ -93,12 +93,12 @@ pub fn parse(line: &[u8]) -> Line {
         (b"clear ", Call::Clear),
         (b"goto ", Call::GoTo),
     ];
-    let call = calls.iter().find_map(|(word, call)| Some(call(number(line.strip_prefix(*word)?)?)));
+    let call = calls.iter().find_map(|(word, call)| Some(call(decimal(line.strip_prefix(*word)?)?)));
     call.map_or(Line::Unknown, Line::Call)
 }
 
 /// "1 to 10 decimal digits, leading zeros allowed, up to 4,294,967,295"
-fn number(digits: &[u8]) -> Option<u32> {
+pub fn decimal(digits: &[u8]) -> Option<u32> {
     let fits = (1..=10).contains(&digits.len()) && digits.iter().all(u8::is_ascii_digit);
     let value = digits.iter().take(10).fold(0, |sum, digit| 10 * sum + u64::from(digit.wrapping_sub(b'0')));
     if fits {

@@ -1,6 +1,6 @@
 //! What the programs over a whole log print: document 01's listing, and the same frames as a WAV.
 
-use crate::log::{check, writes, Refused};
+use crate::log::{check, writes, Refused, Write};
 use crate::run::Run;
 use crate::vsu::traits::AudioFrame;
 
@@ -20,17 +20,22 @@ pub fn refused((number, carried): Refused) -> String {
     format!("refused {number} {carried}\n")
 }
 
-fn frames(log: &[u8], cycles: u32) -> Vec<(u32, AudioFrame)> {
-    Run::new(writes(log)).frames(0, cycles)
+fn frames(writes: Vec<Write>, cycles: u32) -> Vec<(u32, AudioFrame)> {
+    Run::new(writes).frames(0, cycles)
 }
 
 /// The listing, or the line of its refusal.
 pub fn listing(log: &[u8]) -> String {
-    let (count, cycles) = match check_sized(log, LISTED) {
-        Ok(checked) => checked,
-        Err(why) => return refused(why),
-    };
-    let frames = frames(log, cycles);
+    match check_sized(log, LISTED) {
+        Ok((_, cycles)) => listing_of(writes(log), cycles),
+        Err(why) => refused(why),
+    }
+}
+
+/// The listing of a log with these writes and this length.
+pub fn listing_of(writes: Vec<Write>, cycles: u32) -> String {
+    let count = writes.len();
+    let frames = frames(writes, cycles);
     let mut text = format!("log 1 entries {count} cycles {cycles} frames {}\n", frames.len());
     for (number, (made, (left, right))) in (1..).zip(frames) {
         text += &format!("{number} {made} {left} {right}\n");
@@ -41,7 +46,7 @@ pub fn listing(log: &[u8]) -> String {
 /// A 16-bit stereo WAV of the frames as they are.
 pub fn wav(log: &[u8]) -> Result<Vec<u8>, Refused> {
     let (_, cycles) = check_sized(log, OPENED)?;
-    let frames = frames(log, cycles);
+    let frames = frames(writes(log), cycles);
     let size = 4 * frames.len() as u32;
     let mut bytes = Vec::new();
     bytes.extend(b"RIFF");

@@ -1,7 +1,7 @@
 use oracle::console::Console;
 use oracle::programs::{Against, Kind};
 use oracle::stream::Maker;
-use oracle::{bench, constants, explain, listing, logcases, logstream, random, replay, sample, wavlog};
+use oracle::{bench, constants, explain, listing, logcases, logstream, random, recorder, replay, sample, wavlog};
 use std::io::{BufRead, BufWriter, Read, Write};
 use std::mem::take;
 use std::process::exit;
@@ -19,9 +19,11 @@ const USAGE: &str = "usage: oracle constants
        oracle wav                             a WAV of the log on standard input
        oracle wavlog                          the log of the stored run of crates/wav, to standard output
        oracle console FILE                    the console over the log in FILE
-       oracle against list|wav|drive FIRST SEEDS CASES FOUND PROGRAM [WORD..]
-                                              holds a program against these three; what differs goes to the folder FOUND
-                                              with a smaller case, or nowhere where that is -";
+       oracle recorder                        the panel recorder over the script on standard input
+       oracle against list|wav|drive|record FIRST SEEDS CASES FOUND PROGRAM [WORD..] [-- LISTER [WORD..]]
+                                              holds a program against these four; what differs goes to the folder FOUND
+                                              with a smaller case, or nowhere where that is -; LISTER lists what a
+                                              recorder makes";
 
 fn main() {
     let words: Vec<String> = std::env::args().skip(1).collect();
@@ -45,6 +47,13 @@ fn main() {
         },
         ["wavlog"] => put(&wavlog::stored()),
         ["console", file] => console(file),
+        ["recorder"] => {
+            let lines = std::io::stdin().lock().split(b'\n');
+            let lines = lines.map(|line| line.unwrap_or_else(|e| fail(&e.to_string())));
+            let recorded = recorder::record(lines, recorder::PROGRAM);
+            eprint!("{}", recorded.err.concat());
+            put(&recorded.out);
+        }
         ["against", kind, first, seeds, cases, found, ref program @ ..] if !program.is_empty() => {
             against(kind, [first, seeds, cases].map(number), found, program)
         }
@@ -158,9 +167,14 @@ fn against(kind: &str, [first, seeds, cases]: [u64; 3], found: &str, program: &[
     let kind = Kind::ALL.into_iter().find(|known| known.word() == kind).unwrap_or_else(|| fail(USAGE));
     let room = std::env::temp_dir().join(format!("oracle-{}", std::process::id()));
     std::fs::create_dir_all(&room).unwrap_or_else(|e| fail(&e.to_string()));
-    let program = program.iter().map(|word| word.to_string()).collect();
+    let words = |words: &[&str]| words.iter().map(|word| word.to_string()).collect::<Vec<String>>();
+    let mut programs = program.split(|word| *word == "--").map(words);
+    let (program, lister) = (programs.next().unwrap_or_default(), programs.next().unwrap_or_default());
+    if kind == Kind::Record && lister.is_empty() {
+        fail(USAGE);
+    }
     let found = (found != "-").then(|| found.into());
-    let against = Against { program, room, found };
+    let against = Against { program, lister, room, found };
     let compared = against.compare(kind, first, seeds, cases);
     let _ = std::fs::remove_dir_all(&against.room);
     report(compared);

@@ -3,7 +3,7 @@
 use std::io::{Read, Write};
 use std::process::{Child, ChildStdin, Command, Stdio};
 use std::sync::mpsc::{channel, Receiver, RecvTimeoutError};
-use std::thread::{sleep, spawn};
+use std::thread::{sleep, spawn, JoinHandle};
 use std::time::Duration;
 
 /// A program that prints nothing for so long has hung.
@@ -17,6 +17,8 @@ pub enum Way {
     Pieces(usize),
     /// line by line, each after the answer to the one before
     Lines,
+    /// whole, and not ended: the program has to end by itself
+    Open,
 }
 
 #[derive(Debug, Default, PartialEq)]
@@ -47,11 +49,12 @@ fn talk(child: &mut Child, input: &[u8], way: Way) -> Result<Printed, String> {
     let out = chunks(child.stdout.take().unwrap());
     let err = chunks(child.stderr.take().unwrap());
     let stdin = child.stdin.take().unwrap();
-    let mut printed = Printed::default();
+    let (mut printed, mut _open) = (Printed::default(), None);
     match way {
         Way::Lines => line_by_line(stdin, input, &out, &mut printed.out)?,
-        Way::Whole => give(stdin, input.to_vec(), input.len().max(1), Duration::ZERO),
-        Way::Pieces(size) => give(stdin, input.to_vec(), size, Duration::from_micros(300)),
+        Way::Whole => drop(give(stdin, input.to_vec(), input.len().max(1), Duration::ZERO)),
+        Way::Pieces(size) => drop(give(stdin, input.to_vec(), size, Duration::from_micros(300))),
+        Way::Open => _open = Some(give(stdin, input.to_vec(), input.len().max(1), Duration::ZERO)),
     }
     while more(&out, &mut printed.out)? {}
     while more(&err, &mut printed.err)? {}
@@ -59,16 +62,17 @@ fn talk(child: &mut Child, input: &[u8], way: Way) -> Result<Printed, String> {
 }
 
 /// On a thread of its own, since a program may fill its output before it has read its input. One that ends before it has
-/// read everything is no error.
-fn give(mut stdin: ChildStdin, input: Vec<u8>, size: usize, rest: Duration) {
+/// read everything is no error. The input ends when the thread is through and nobody holds its handle.
+fn give(mut stdin: ChildStdin, input: Vec<u8>, size: usize, rest: Duration) -> JoinHandle<ChildStdin> {
     spawn(move || {
         for piece in input.chunks(size) {
             if stdin.write_all(piece).is_err() {
-                return;
+                break;
             }
             sleep(rest);
         }
-    });
+        stdin
+    })
 }
 
 /// Waits for the first line, then for an answer to each line that has a newline.

@@ -1,10 +1,12 @@
 //! Holds a program against the oracle's own answers, on random logs and scripts.
 
 use crate::console::{lines, session};
-use crate::listing::{check_sized, listing, refused, wav, LISTED, OPENED};
+use crate::listing::{check_sized, listing, listing_of, refused, wav, LISTED, OPENED};
 use crate::log::{bytes_of, check, writes};
+use crate::panels;
 use crate::process::{run, Printed, Way};
 use crate::random::Numbers;
+use crate::recorder::{record, Recorded, PROGRAM};
 use crate::scripts::script;
 use crate::tunes;
 use std::collections::BTreeMap;
@@ -14,15 +16,19 @@ use std::path::{Path, PathBuf};
 /// The most cycles of a log that is listed or written out whole.
 const LONGEST: u32 = tunes::FULL + 1_000_000;
 
+/// How often a part of a case is left out to make it smaller: a log or a script may have 131,070 of them.
+const TRIES: u32 = 1_000;
+
 #[derive(Clone, Copy, Debug, PartialEq)]
 pub enum Kind {
     List,
     Wav,
     Drive,
+    Record,
 }
 
 impl Kind {
-    pub const ALL: [Kind; 3] = [Kind::List, Kind::Wav, Kind::Drive];
+    pub const ALL: [Kind; 4] = [Kind::List, Kind::Wav, Kind::Drive, Kind::Record];
 
     /// As the command line has it.
     pub fn word(self) -> &'static str {
@@ -30,6 +36,7 @@ impl Kind {
             Kind::List => "list",
             Kind::Wav => "wav",
             Kind::Drive => "drive",
+            Kind::Record => "record",
         }
     }
 }
@@ -37,8 +44,9 @@ impl Kind {
 #[derive(Clone)]
 pub struct Case {
     pub kind: Kind,
+    /// empty for the recorder, which makes one
     pub log: Vec<u8>,
-    /// empty but for the console
+    /// empty but for the console and the recorder
     pub script: Vec<u8>,
     pub way: Way,
 }
@@ -48,8 +56,13 @@ pub fn case(kind: Kind, r: &mut Numbers) -> Case {
         Kind::List => whole(r, LISTED),
         Kind::Wav => whole(r, OPENED),
         Kind::Drive => tunes::opened(r),
+        Kind::Record => Vec::new(),
     };
-    let script = if kind == Kind::Drive { script(r, &log) } else { Vec::new() };
+    let script = match kind {
+        Kind::List | Kind::Wav => Vec::new(),
+        Kind::Drive => script(r, &log),
+        Kind::Record => panels::script(r),
+    };
     let way = way(kind, r, log.len().max(script.len()));
     Case { kind, log, script, way }
 }
@@ -69,54 +82,95 @@ fn way(kind: Kind, r: &mut Numbers, size: usize) -> Way {
     match r.below(10) {
         0 if size < 300 * piece => Way::Pieces(piece),
         1 if kind == Kind::Drive => Way::Lines,
+        1 if kind == Kind::Record => Way::Open,
         _ => Way::Whole,
     }
 }
 
 /// What a program must print, and how many cycles it runs for that.
+#[derive(Default)]
 pub struct Wanted {
     pub printed: Printed,
+    /// the log, or of a script that it finishes one
     pub accepted: bool,
     pub cycles: u64,
+    pub recorded: Option<Recorded>,
+    /// of what was recorded, where the lister takes it
+    pub listing: Option<String>,
 }
 
 pub fn wanted(case: &Case) -> Wanted {
     let most = if case.kind == Kind::List { LISTED } else { OPENED };
     let checked = check_sized(&case.log, most);
-    let mut cycles = checked.map_or(0, |(_, cycles)| cycles as u64);
-    let mut printed = Printed::default();
+    let cycles = checked.map_or(0, |(_, cycles)| cycles as u64);
+    let mut wanted = Wanted { accepted: checked.is_ok(), cycles, ..Wanted::default() };
     match case.kind {
-        Kind::List => printed.out = listing(&case.log).into(),
+        Kind::List => wanted.printed.out = listing(&case.log).into(),
         Kind::Wav => match wav(&case.log) {
-            Ok(bytes) => printed.out = bytes,
-            Err(why) => printed.err = refused(why).into(),
+            Ok(bytes) => wanted.printed.out = bytes,
+            Err(why) => wanted.printed.err = refused(why).into(),
         },
         Kind::Drive => {
             let session = session(&case.log, &case.script);
-            printed.out = (session.lines.join("\n") + "\n").into();
-            cycles = session.cycles;
+            wanted.printed.out = (session.lines.join("\n") + "\n").into();
+            wanted.cycles = session.cycles;
         }
+        Kind::Record => wanted = wanted_of(record(lines(&case.script), PROGRAM)),
     }
-    Wanted { printed, accepted: checked.is_ok(), cycles }
+    wanted
+}
+
+/// The listing is one of the writes that were taken, on the Rust: the log's bytes are not used for it.
+fn wanted_of(recorded: Recorded) -> Wanted {
+    let listed = recorded.length.filter(|&length| recorded.out.len() <= LISTED && length <= LONGEST);
+    Wanted {
+        printed: Printed { out: recorded.out.clone(), err: recorded.err.concat().into() },
+        accepted: recorded.length.is_some(),
+        cycles: listed.map_or(0, u64::from),
+        listing: listed.map(|length| listing_of(recorded.writes.clone(), length)),
+        recorded: Some(recorded),
+    }
+}
+
+/// None where everything printed is as it has to be.
+pub fn different(case: &Case, expected: &Printed, got: &Printed) -> Option<String> {
+    let out = match case.kind {
+        Kind::Wav | Kind::Record => different_bytes(&expected.out, &got.out),
+        Kind::List | Kind::Drive => different_lines(case, &expected.out, &got.out),
+    };
+    let err = different_lines(case, &expected.err, &got.err).map(|what| format!("standard error, {what}"));
+    let both: Vec<String> = [out, err].into_iter().flatten().collect();
+    (!both.is_empty()).then(|| both.join("\n"))
+}
+
+fn different_bytes(expected: &[u8], got: &[u8]) -> Option<String> {
+    let at = (0..expected.len().max(got.len())).find(|&i| expected.get(i) != got.get(i))?;
+    Some(format!("byte {at}: expected {:?} got {:?}", expected.get(at), got.get(at)))
 }
 
 /// The first line that differs, with what was sent for it.
-pub fn different(case: &Case, expected: &[u8], got: &[u8]) -> Option<String> {
+fn different_lines(case: &Case, expected: &[u8], got: &[u8]) -> Option<String> {
     if expected == got {
         return None;
-    }
-    if case.kind == Kind::Wav {
-        let at = (0..).find(|&i| expected.get(i) != got.get(i))?;
-        return Some(format!("byte {at}: expected {:?} got {:?}", expected.get(at), got.get(at)));
     }
     let (expected, got) = (cut(expected), cut(got));
     let at = (0..).find(|&i| expected.get(i) != got.get(i))?;
     let mut text = format!("line {}\n", at + 1);
-    if let Some(line) = lines(&case.script).get(at.wrapping_sub(1)) {
+    let of = match case.kind {
+        Kind::Record => [&expected, &got].iter().filter_map(|lines| named(lines.get(at)?)).min().unwrap_or(0),
+        _ => at,
+    };
+    if let Some(line) = lines(&case.script).get(of.wrapping_sub(1)) {
         text += &format!("sent:     {}\n", show(line));
     }
     let shown = |lines: &[Vec<u8>]| lines.get(at).map_or("nothing".to_string(), |line| show(line));
     Some(text + &format!("expected: {}\ngot:      {}", shown(&expected), shown(&got)))
+}
+
+/// K of `line K: ..`
+fn named(line: &[u8]) -> Option<usize> {
+    let text = std::str::from_utf8(line).ok()?;
+    text.strip_prefix("line ")?.split(':').next()?.parse().ok()
 }
 
 fn show(line: &[u8]) -> String {
@@ -128,9 +182,11 @@ fn cut(text: &[u8]) -> Vec<Vec<u8>> {
     text.split_inclusive(|&byte| byte == b'\n').map(<[u8]>::to_vec).collect()
 }
 
-/// A program by its words, a folder for a console's log, and one for what is found, where that is wanted.
+/// A program by its words, a lister for what a recorder makes, a folder for a console's log, and one for what is found, where
+/// that is wanted.
 pub struct Against {
     pub program: Vec<String>,
+    pub lister: Vec<String>,
     pub room: PathBuf,
     pub found: Option<PathBuf>,
 }
@@ -138,7 +194,7 @@ pub struct Against {
 impl Against {
     /// The totals of all seeds, or the first difference.
     pub fn compare(&self, kind: Kind, first: u64, seeds: u64, cases: u64) -> Result<Totals, String> {
-        let mut totals = Totals::default();
+        let mut totals = Totals::new(kind);
         if kind == Kind::Drive {
             self.unreadable()?;
         }
@@ -155,7 +211,7 @@ impl Against {
                         kind.word()
                     ));
                 }
-                totals.add(kind, &wanted);
+                totals.add(&wanted);
             }
             totals.seeds += 1;
         }
@@ -164,23 +220,43 @@ impl Against {
 
     /// None where everything printed is as it has to be.
     fn differs(&self, case: &Case, wanted: &Wanted) -> Option<String> {
-        match self.run(case) {
+        match self.run(case, wanted) {
             Err(why) => Some(why),
             Ok((_, status)) if status != 0 => Some(format!("it ended with exit status {status}")),
-            Ok((got, _)) => different(case, &wanted.printed.out, &got.out).or_else(|| {
-                let err = different(case, &wanted.printed.err, &got.err)?;
-                Some(format!("standard error, {err}"))
-            }),
+            Ok((got, _)) => different(case, &wanted.printed, &got).or_else(|| self.unsound(wanted, &got.out)),
         }
     }
 
-    fn run(&self, case: &Case) -> Result<(Printed, i32), String> {
-        if case.kind != Kind::Drive {
-            return run(&self.program, &case.log, case.way);
+    /// A log that was recorded, read as 01 has it, and listed.
+    fn unsound(&self, wanted: &Wanted, log: &[u8]) -> Option<String> {
+        let recorded = wanted.recorded.as_ref()?;
+        let (length, taken) = (recorded.length?, &recorded.writes);
+        if check(log) != Ok((taken.len() as u32, length)) || writes(log) != *taken {
+            return Some(format!("its log is read as {:?}, {:?}", check(log), writes(log)));
         }
-        let file = self.room.join("log");
-        fs::write(&file, &case.log).map_err(|e| e.to_string())?;
-        run(&self.with_file(&file), &case.script, case.way)
+        let expected = wanted.listing.as_ref()?;
+        match run(&self.lister, log, Way::Whole) {
+            Err(why) => Some(why),
+            Ok((got, _)) if got.out == expected.as_bytes() => None,
+            Ok((got, _)) => Some(format!("its listing: {}", different_bytes(expected.as_bytes(), &got.out)?)),
+        }
+    }
+
+    fn run(&self, case: &Case, wanted: &Wanted) -> Result<(Printed, i32), String> {
+        match case.kind {
+            Kind::List | Kind::Wav => run(&self.program, &case.log, case.way),
+            Kind::Drive => {
+                let file = self.room.join("log");
+                fs::write(&file, &case.log).map_err(|e| e.to_string())?;
+                run(&self.with_file(&file), &case.script, case.way)
+            }
+            Kind::Record => {
+                // only a finish that is accepted ends it, and a rest is no line before the input's end
+                let ends = wanted.accepted && case.script.ends_with(b"\n");
+                let way = if case.way == Way::Open && !ends { Way::Whole } else { case.way };
+                run(&self.program, &case.script, way)
+            }
+        }
     }
 
     fn with_file(&self, file: &Path) -> Vec<String> {
@@ -214,10 +290,13 @@ impl Against {
         format!("{text}the small one: {again}\n")
     }
 
-    /// Drops lines, then entries, and both again, as long as it differs.
+    /// Gives the input whole, drops lines, then entries, and both again, as long as it differs.
     fn smaller(&self, case: &Case) -> Case {
-        let mut small = case.clone();
         let still = |case: Case| self.differs(&case, &wanted(&case)).is_some();
+        let mut small = Case { way: Way::Whole, ..case.clone() };
+        if !still(small.clone()) {
+            small.way = case.way;
+        }
         for _ in 0..2 {
             let kept = fewer(cut(&small.script), |kept| still(Case { script: kept.concat(), ..small.clone() }));
             small.script = kept.concat();
@@ -231,54 +310,77 @@ impl Against {
     }
 }
 
-/// The list without the parts that can go: halves first, then ever smaller ones.
+/// The list without the parts that can go: halves first, then ever smaller ones, as long as there are tries.
 fn fewer<T: Clone>(mut list: Vec<T>, still: impl Fn(&[T]) -> bool) -> Vec<T> {
-    let mut size = list.len().div_ceil(2);
-    while size > 0 {
-        let mut at = 0;
-        while at < list.len() {
-            let mut without = list.clone();
-            without.drain(at..(at + size).min(list.len()));
-            if still(&without) {
-                list = without;
-            } else {
-                at += size;
-            }
+    let (mut size, mut at, mut tries) = (list.len().div_ceil(2), 0, 0);
+    while size > 0 && tries < TRIES {
+        if at >= list.len() {
+            (size, at) = (size / 2, 0);
+            continue;
         }
-        size /= 2;
+        let mut without = list.clone();
+        without.drain(at..(at + size).min(list.len()));
+        tries += 1;
+        if still(&without) {
+            list = without;
+        } else {
+            at += size;
+        }
     }
     list
 }
 
 /// What agreed.
-#[derive(Default)]
 pub struct Totals {
+    pub kind: Kind,
     pub seeds: u64,
-    pub logs: u64,
+    /// logs, or a recorder's scripts
+    pub cases: u64,
+    /// logs that are refused, or scripts that finish none
     pub refused: u64,
     pub lines: u64,
     pub bytes: u64,
     pub cycles: u64,
-    /// the refused logs by their line, and the console's answers by their first word; refusals by their number
+    /// a recorder's adds that it took, and its logs that were listed
+    pub adds: u64,
+    pub listings: u64,
+    /// the refused logs by their line, and a program's answers by their first word; refusals by their number
     pub answers: BTreeMap<String, u64>,
 }
 
 impl Totals {
-    pub fn add(&mut self, kind: Kind, wanted: &Wanted) {
-        self.logs += 1;
+    pub fn new(kind: Kind) -> Self {
+        let answers = BTreeMap::new();
+        Totals { kind, seeds: 0, cases: 0, refused: 0, lines: 0, bytes: 0, cycles: 0, adds: 0, listings: 0, answers }
+    }
+
+    pub fn add(&mut self, wanted: &Wanted) {
+        self.cases += 1;
+        self.refused += u64::from(!wanted.accepted);
         self.bytes += wanted.printed.out.len() as u64;
         self.cycles += wanted.cycles;
-        let text = String::from_utf8_lossy(&wanted.printed.out);
-        if kind != Kind::Wav {
-            self.lines += text.lines().count() as u64;
+        let [out, err] = [&wanted.printed.out, &wanted.printed.err].map(|text| String::from_utf8_lossy(text));
+        match self.kind {
+            Kind::Wav if wanted.accepted => {}
+            Kind::Wav => self.count("log ", &err),
+            Kind::Record => self.add_record(wanted, &err),
+            Kind::List | Kind::Drive => {
+                self.lines += out.lines().count() as u64;
+                if !wanted.accepted {
+                    self.count("log ", &out);
+                } else if self.kind == Kind::Drive {
+                    out.lines().skip(1).for_each(|line| self.count("", line));
+                }
+            }
         }
-        if !wanted.accepted {
-            self.refused += 1;
-            let line = if kind == Kind::Wav { String::from_utf8_lossy(&wanted.printed.err) } else { text };
-            self.count("log ", &line);
-        } else if kind == Kind::Drive {
-            text.lines().skip(1).for_each(|line| self.count("", line));
-        }
+    }
+
+    fn add_record(&mut self, wanted: &Wanted, err: &str) {
+        let recorded = wanted.recorded.as_ref().expect("of a recorder");
+        self.lines += recorded.lines as u64;
+        self.adds += recorded.writes.len() as u64;
+        self.listings += u64::from(wanted.listing.is_some());
+        err.lines().filter_map(|line| line.split_once(": ")).for_each(|(_, answer)| self.count("", answer));
     }
 
     fn count(&mut self, what: &str, line: &str) {
@@ -290,11 +392,18 @@ impl Totals {
 
 impl std::fmt::Display for Totals {
     fn fmt(&self, f: &mut std::fmt::Formatter) -> std::fmt::Result {
-        let Totals { seeds, logs, refused, lines, bytes, cycles, answers } = self;
-        write!(f, "{seeds} seeds {logs} logs ({} accepted, {refused} refused) ", logs - refused)?;
+        let Totals { kind, seeds, cases, refused, lines, bytes, cycles, adds, listings, answers } = self;
+        let (what, yes, no) = match kind {
+            Kind::Record => ("scripts", "finished", "not"),
+            _ => ("logs", "accepted", "refused"),
+        };
+        write!(f, "{seeds} seeds {cases} {what} ({} {yes}, {refused} {no}) ", cases - refused)?;
         // a WAV has none
         if *lines > 0 {
             write!(f, "{lines} lines ")?;
+        }
+        if *kind == Kind::Record {
+            write!(f, "{adds} adds {listings} listings ")?;
         }
         write!(f, "{bytes} bytes {cycles} cycles")?;
         let answers: Vec<String> = answers.iter().map(|(answer, times)| format!("{answer}: {times}")).collect();

@@ -26,7 +26,7 @@ struct Script<'a> {
 pub fn script(r: &mut Numbers, log: &[u8]) -> Vec<u8> {
     let Ok((player, _, length)) = Player::open(log) else { return b"image\nplay 1\nseek 0\n".to_vec() };
     if r.one_in(60) {
-        return [&b""[..], b"\n", b"\n\n", b"\r\n"][r.below(4) as usize].to_vec();
+        return blank(r);
     }
     let dues = writes(log).iter().map(|w| w.due).collect();
     let slots = r.pick(&[2, 4, 16]);
@@ -57,7 +57,7 @@ impl Script<'_> {
             21 => self.send(b"memory"),
             22 if self.r.one_in(4) => self.fill(),
             _ => {
-                let line = bad(self.r);
+                let line = bad(self.r, &CALLS);
                 self.send(&line);
             }
         }
@@ -185,53 +185,72 @@ impl Script<'_> {
     }
 }
 
-// Lists, with a bar between two.
-const GOOD: &str = "play 480|play 1|seek 0|seek 481|set 3|set free|clear 0|goto 1|image|memory";
+/// Nothing but newlines.
+pub fn blank(r: &mut Numbers) -> Vec<u8> {
+    [&b""[..], b"\n", b"\n\n", b"\r\n"][r.below(4) as usize].to_vec()
+}
 
-/// Lines that are no call although they look like one.
-const ODD: &str = "| |play|play |seek|set|set |clear|goto|goto |play480|play 1 2|play 0x10|play 1e3|play 4.0|play 4,000|play one|\
-    play free|seek free|clear free|goto free|set Free|set fre|set freee|set free |set  free|setfree|image 0|images|mage|\
-    memory 0|memor|unknown|open|quit|go to 1|stop|play -0|play +0|seek 18446744073709551616|play 4294967296|goto 4294967297";
+/// What a program reads, as lists with a bar between two.
+pub struct Forms {
+    /// lines that it knows
+    pub good: &'static str,
+    /// lines that it doesn't know although they look like one
+    pub odd: &'static str,
+    /// lines with a place for a number
+    pub numbered: &'static str,
+}
+
+const CALLS: Forms = Forms {
+    good: "play 480|play 1|seek 0|seek 481|set 3|set free|clear 0|goto 1|image|memory",
+    odd:
+        "| |play|play |seek|set|set |clear|goto|goto |play480|play 1 2|play 0x10|play 1e3|play 4.0|play 4,000|play one|\
+        play free|seek free|clear free|goto free|set Free|set fre|set freee|set free |set  free|setfree|image 0|images|\
+        mage|memory 0|memor|unknown|open|quit|go to 1|stop|play -0|play +0|seek 18446744073709551616|play 4294967296|\
+        goto 4294967297",
+    numbered: "play _|seek _|set _|clear _|goto _",
+};
 
 /// Numbers around their limits: ten digits and eleven, the largest and one more, signs, other digits.
 const NUMBERS: &str =
     "4294967295|4294967296|4294967297|9999999999|10000000000|04294967295|0000000001|00000000001|0000000000|\
     00000000000|+1|-1|1-|1_000|１|²|18446744073709551617|/|:|0:|/0";
 
-fn any<'a>(r: &mut Numbers, list: &'a str) -> &'a str {
+pub fn any<'a>(r: &mut Numbers, list: &'a str) -> &'a str {
     let list: Vec<&str> = list.split('|').collect();
     list[r.below(list.len() as u32) as usize]
 }
 
-/// A line that is mostly no call.
-fn bad(r: &mut Numbers) -> Vec<u8> {
-    let good = any(r, GOOD);
+/// A line that is mostly not known.
+pub fn bad(r: &mut Numbers, forms: &Forms) -> Vec<u8> {
+    let good = any(r, forms.good);
     let line = match r.below(12) {
-        0..=2 => any(r, ODD).to_string(),
+        0..=2 => any(r, forms.odd).to_string(),
         3 => good.to_uppercase(),
         4 => good[..1].to_uppercase() + &good[1..],
         5 => good.replace(' ', any(r, "  |\t|\r|\0|\u{b}|\u{a0}|_|")),
         6 => good.to_string() + any(r, " |\t|\r|\0|0 |\u{7f}|é| 0"),
         7 => any(r, " |\t|\0|\u{feff}|+|-|0|\r").to_string() + good,
-        8 => any(r, "play|seek|set|clear|goto").to_string() + " " + any(r, NUMBERS),
-        9 => return long(r, good),
+        8 => any(r, forms.numbered).replacen('_', any(r, NUMBERS), 1),
+        9 => return long(r, good, forms),
         10 => return edited(r, good),
         _ => return (0..r.below(30)).map(|_| r.below(256) as u8).filter(|&byte| byte != b'\n').collect(),
     };
     line.into_bytes()
 }
 
-/// Lines longer than any buffer for them may be, that begin or end like a call.
-fn long(r: &mut Numbers, good: &str) -> Vec<u8> {
+/// Lines longer than any buffer for them may be, that begin or end like a known one.
+fn long(r: &mut Numbers, good: &str, forms: &Forms) -> Vec<u8> {
     let near = r.pick(&[16, 32, 64, 100, 128, 256, 512, 1_024, 2_048, 4_096, 4_096, 8_192, 16_384, 65_536, 200_000]);
     let size = (near + r.below(21) - 10) as usize;
     let fill = [b'x', b' ', b'0', 0, 0xFF][r.below(5) as usize];
     let fill = vec![fill; size];
+    let (before, rest) = forms.numbered.split_once('_').unwrap();
+    let after = rest.split('|').next().unwrap();
     match r.below(4) {
         0 => fill,
         1 => [good.as_bytes(), &fill].concat(),
         2 => [&fill, good.as_bytes()].concat(),
-        _ => [b"play ", &fill[..], b"1"].concat(),
+        _ => [before.as_bytes(), &fill, b"1", after.as_bytes()].concat(),
     }
 }
 

@@ -71,7 +71,7 @@ fn damaged(r: &mut Numbers, log: &mut Vec<u8>) {
 }
 
 /// A log that makes sound.
-fn tune(r: &mut Numbers) -> Vec<u8> {
+pub fn tune(r: &mut Numbers) -> Vec<u8> {
     let length = length(r);
     if length == 0 {
         return bytes_of(0, &[]);
@@ -150,15 +150,21 @@ fn start(r: &mut Numbers) -> Vec<(u32, u8)> {
     setup(r).into_iter().filter(|(address, _)| *address >= 0x400 && *address != 0x580).collect()
 }
 
+/// At least so many writes that make sound.
+pub fn many(r: &mut Numbers, length: u32, entries: usize) -> Vec<Write> {
+    let mut writes = groups(r, length, (entries as u32 - 1) / 20);
+    while writes.len() < entries {
+        writes.extend(due_at(length - 1, setup(r)));
+    }
+    writes
+}
+
 /// At the limit of size, a byte or an entry above it, a byte below it or far above; half of them with another fault, that
 /// the size must come before.
 fn at_limit(r: &mut Numbers, most: usize) -> Vec<u8> {
     let entries = (most - HEADER) / ENTRY;
     let length = 1 + r.below(200_000);
-    let mut writes = groups(r, length, entries as u32 / 20);
-    while writes.len() < entries + 1 {
-        writes.extend(due_at(length - 1, setup(r)));
-    }
+    let mut writes = many(r, length, entries + 1);
     let way = r.pick(&[0, 1, 1, 2, 3, 4, 5]);
     writes.truncate(if way == 0 { entries + 1 } else { entries });
     let mut log = bytes_of(length, &writes);

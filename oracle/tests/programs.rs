@@ -7,6 +7,7 @@ use oracle::image::{from_image, image, image_of};
 use oracle::listing::{check_sized, listing, wav, LISTED, OPENED};
 use oracle::log::{bytes_of, writes, Write};
 use oracle::player::{Call, MARKS, ROOM, SLOT};
+use oracle::process::Printed;
 use oracle::programs::{case, different, wanted, Case, Kind, Totals};
 use oracle::random::Numbers;
 use oracle::run::Run;
@@ -339,7 +340,8 @@ fn found(fault: Fault, cases: usize) -> Option<(usize, String)> {
     let mut r = Numbers::new(1);
     (1..=cases).find_map(|number| {
         let case = case(Kind::Drive, &mut r);
-        Some((number, different(&case, &wanted(&case).printed.out, &printed(fault, &case))?))
+        let got = Printed { out: printed(fault, &case), err: Vec::new() };
+        Some((number, different(&case, &wanted(&case).printed, &got)?))
     })
 }
 
@@ -360,7 +362,7 @@ fn wrong_consoles_are_found() {
 /// The cases come to everything that they are for.
 #[test]
 fn what_the_cases_hold() {
-    let (mut r, mut totals, mut silent, mut heard) = (Numbers::new(7), Totals::default(), 0, 0);
+    let (mut r, mut totals, mut silent, mut heard) = (Numbers::new(7), Totals::new(Kind::Drive), 0, 0);
     for _ in 0..300 {
         let wanted = wanted(&case(Kind::Drive, &mut r));
         let text = String::from_utf8(wanted.printed.out.clone()).unwrap();
@@ -368,7 +370,7 @@ fn what_the_cases_hold() {
         let (mute, loud): (Vec<&str>, Vec<&str>) =
             text.lines().filter(of_none).partition(|line| line.contains(" sum 0 "));
         (silent, heard) = (silent + mute.len(), heard + loud.len());
-        totals.add(Kind::Drive, &wanted);
+        totals.add(&wanted);
     }
     println!("{totals}\nplays with frames: {heard} heard, {silent} silent");
     for answer in ["played", "sought", "set", "cleared", "went", "image", "memory", "unknown"] {
@@ -377,5 +379,5 @@ fn what_the_cases_hold() {
     for (refusal, least) in [("2", 20), ("12", 400), ("14", 200), ("15", 300), ("16", 50)] {
         assert!(totals.answers[&format!("refused {refusal}")] > least, "refusal {refusal} is hardly seen");
     }
-    assert!(totals.refused > 50 && 3 * totals.refused < 2 * totals.logs);
+    assert!(totals.refused > 50 && 3 * totals.refused < 2 * totals.cases);
 }
