@@ -1,5 +1,7 @@
 // The timed run, the same as `oracle bench`: prints nothing on empty standard input; on a cycle count runs that many cycles with
-// all six voices playing, and prints the sum of the frames. On a log of edition 1 it checks that ten thousand times.
+// all six voices playing, and prints the sum of the frames. On a log of edition 1 it checks that ten thousand times; on `adds` and a
+// count it fills a recorder's buffer so often, and prints a sum.
+mod adds;
 mod logs;
 
 use libc::STDIN_FILENO;
@@ -137,6 +139,10 @@ fn main() {
     }
     let n = decimal(&text);
     if n == 0 {
+        return;
+    }
+    if text[0] == b'a' {
+        show(adds::sum_of(n));
         return;
     }
     show(sum_of(n));
