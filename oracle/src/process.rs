@@ -9,6 +9,8 @@ use std::time::Duration;
 /// A program that prints nothing for so long has hung.
 const PATIENCE: Duration = Duration::from_secs(60);
 
+pub const HUNG: &str = "it waits without an answer";
+
 /// How the input is given.
 #[derive(Clone, Copy, Debug, PartialEq)]
 pub enum Way {
@@ -100,7 +102,7 @@ fn more(from: &Receiver<Vec<u8>>, text: &mut Vec<u8>) -> Result<bool, String> {
     match from.recv_timeout(PATIENCE) {
         Ok(chunk) => text.extend(chunk),
         Err(RecvTimeoutError::Disconnected) => return Ok(false),
-        Err(RecvTimeoutError::Timeout) => return Err("it waits without an answer".to_string()),
+        Err(RecvTimeoutError::Timeout) => return Err(HUNG.to_string()),
     }
     Ok(true)
 }

@@ -4,7 +4,7 @@ use crate::console::{lines, session};
 use crate::listing::{check_sized, listing, listing_of, refused, wav, LISTED, OPENED};
 use crate::log::{bytes_of, check, writes};
 use crate::panels;
-use crate::process::{run, Printed, Way};
+use crate::process::{run, Printed, Way, HUNG};
 use crate::random::Numbers;
 use crate::recorder::{record, Recorded, PROGRAM};
 use crate::scripts::script;
@@ -205,7 +205,8 @@ impl Against {
                 let wanted = wanted(&case);
                 if let Some(what) = self.differs(&case, &wanted) {
                     let name = format!("{}-{seed}-{number}", kind.word());
-                    let kept = self.found.as_ref().map_or(String::new(), |found| self.keep(&found.join(name), &case));
+                    let keep = |found: &PathBuf| self.keep(&found.join(name), &case, &what);
+                    let kept = self.found.as_ref().map_or(String::new(), keep);
                     return Err(format!(
                         "{} seed {seed} case {number} {what}\n{kept}up to here agreed {totals}",
                         kind.word()
@@ -274,9 +275,9 @@ impl Against {
         Ok(())
     }
 
-    /// Writes down the case, and a smaller one that still differs.
-    fn keep(&self, path: &Path, case: &Case) -> String {
-        let small = self.smaller(case);
+    /// Writes down the case, and a smaller one that still differs. To wait for a program that hangs takes too long for many tries.
+    fn keep(&self, path: &Path, case: &Case, what: &str) -> String {
+        let small = if what == HUNG { case.clone() } else { self.smaller(case) };
         let mut text = String::new();
         for (more, case) in [("", case), ("-small", &small)] {
             for (ending, bytes) in [("log", &case.log), ("script", &case.script)] {
