@@ -81,6 +81,10 @@ module _ (l : Layout) (room : ℕ) where
       unfolding finishAnswer fault _then_
       finish-passes f e g = rw (h, le-ltb mostEntries (r .entries) f, le-ltb room (entryPlace l (r .entries)) (rw e at g))
 
+-- where the next entry begins
+pub next-place : (n : ℕ) {at : ℕ} → at ≡ entryPlace edition1 n → at + 8 ≡ entryPlace edition1 (n + 1)
+next-place n e = omega (arith, e)
+
 -- what is written, number after number
 
 module _ (b : List ℕ) where

@@ -85,7 +85,8 @@ pub fn add(r: Recorder, cycle: u32, address: u16, byte: u8, buffer: &mut [u8]) -
     if r.entries >= 1_000_000 {
         return refused(r, Refusal::LogCount);
     }
-    if buffer.len() < log::entry_place(r.entries + 1) {
+    // by its own place and not the next one's: so the compiler sees that all eight bytes have room
+    if buffer.len() < log::entry_place(r.entries) + 8 {
         return refused(r, Refusal::Room);
     }
     put_entry(buffer, r.entries, cycle, address, byte);
