@@ -1,6 +1,9 @@
 //! The programs over a log: document 01's own log and a session by hand; and consoles that are wrong, which the comparison
 //! has to find.
 
+#[macro_use]
+mod faults;
+
 use oracle::console::{lines, parse, session, Line};
 use oracle::digest::{fold, sum_of};
 use oracle::image::{from_image, image, image_of};
@@ -139,19 +142,7 @@ fn lines_that_are_no_call() {
     assert_eq!(lines(b"image\r\n"), [b"image\r"]);
 }
 
-/// How a console is wrong, and all the ways, named once.
-macro_rules! faults {
-    ($($(#[$what:meta])* $name:ident,)*) => {
-        #[derive(Clone, Copy, Debug, PartialEq)]
-        enum Fault {
-            None,
-            $($(#[$what])* $name,)*
-        }
-
-        const FAULTS: &[Fault] = &[$(Fault::$name,)*];
-    };
-}
-
+// How a console is wrong.
 faults! {
     /// a seek back sends the writes again, and runs nothing in between
     RegistersAgain,

@@ -1,6 +1,9 @@
 //! The panel recorder: sessions by hand from document 02's text, a recorder in the recorder's own way, over a buffer, which has
 //! to agree, and wrong ones, which the comparison has to find.
 
+#[macro_use]
+mod faults;
+
 use oracle::console::lines;
 use oracle::log::{bytes_of, check, Write, MOST_ENTRIES};
 use oracle::process::{Printed, Way};
@@ -129,19 +132,7 @@ fn lines_that_are_no_turn() {
     none.split('|').for_each(|line| assert_eq!(parse(line.as_bytes()), Turn::Unknown, "{line:?}"));
 }
 
-/// How a recorder is wrong, and all the ways, named once.
-macro_rules! faults {
-    ($($(#[$what:meta])* $name:ident,)*) => {
-        #[derive(Clone, Copy, Debug, PartialEq)]
-        enum Fault {
-            None,
-            $($(#[$what])* $name,)*
-        }
-
-        const FAULTS: &[Fault] = &[$(Fault::$name,)*];
-    };
-}
-
+// How a recorder is wrong.
 faults! {
     EqualIsEarlier,
     /// 17 is not given by one cycle
