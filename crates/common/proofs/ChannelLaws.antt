@@ -19,26 +19,22 @@ use Rattle.common.specs.declared.channel.Envelope.{Envelope}
 -- step 1
 
 module _ (l : Live) where
-  pub live-silent : l .playing ≡ false → l ≡ liveStep l
+  pub live-still : (l .playing && l .auto) ≡ false → l ≡ liveStep l
   unfolding liveStep
-  live-silent p = rw p
+  live-still p = rw p
 
-  pub live-endless : l .playing ≡ true → l .auto ≡ false → l ≡ liveStep l
-  unfolding liveStep
-  live-endless p a = rw (p, a)
-
-  module _ (p : l .playing ≡ true) (a : l .auto ≡ true) where
+  module _ (p : (l .playing && l .auto) ≡ true) where
     pub live-counts : l .tick < 76804 → withTickCounterPlaying l (l .tick + 1) (l .counter) (l .playing) ≡ liveStep l
     unfolding liveStep
-    live-counts t = rw (p, a, lt-leb 76805 (l .tick + 1) (omega arith))
+    live-counts t = rw (p, lt-leb 76805 (l .tick + 1) (omega arith))
 
     pub live-ticks : 76804 ≤ l .tick → l .counter < l .interval → withTickCounterPlaying l 0 (l .counter + 1) (l .playing) ≡ liveStep l
     unfolding liveStep liveTicked
-    live-ticks t i = rw (p, a, le-leb 76805 (l .tick + 1) (omega arith), lt-leb (l .interval + 1) (l .counter + 1) (omega arith))
+    live-ticks t i = rw (p, le-leb 76805 (l .tick + 1) (omega arith), lt-leb (l .interval + 1) (l .counter + 1) (omega arith))
 
     pub live-stops : 76804 ≤ l .tick → l .interval ≤ l .counter → withTickCounterPlaying l 0 0 false ≡ liveStep l
     unfolding liveStep liveTicked
-    live-stops t i = rw (p, a, le-leb 76805 (l .tick + 1) (omega arith), le-leb (l .interval + 1) (l .counter + 1) (omega arith))
+    live-stops t i = rw (p, le-leb 76805 (l .tick + 1) (omega arith), le-leb (l .interval + 1) (l .counter + 1) (omega arith))
 
 -- step 2
 

@@ -147,10 +147,7 @@ pub fn live_step(l: Live) -> Live
     ensures { λ r. ⌜ r ≡ liveStep l ⌝ }
 {
     let mut m = l;
-    if !l.playing {
-        return m;
-    }
-    if !l.auto {
+    if !(l.playing & l.auto) {
         return m;
     }
     if l.tick < SOUND_LIVE_INTERVAL_CYCLE_COUNT - 1 {
