@@ -31,10 +31,12 @@ pub struct Envelope {
     pub looped: bool,
 }
 
+// In this order no step leaves eight bytes alone beside those that it moves: such eight the compiler would carry as one number, taken apart
+// and put together in each cycle (docs/PERFORMANCE.md).
 pub struct Channel {
-    pub live: Live,
-    pub pitch: Pitch,
     pub envelope: Envelope,
+    pub pitch: Pitch,
+    pub live: Live,
     pub left: u8,
     pub right: u8,
 }
