@@ -1,6 +1,6 @@
 -- The cases of the definitions of specs/Channel.antt, one law each, over plain variables; then, that a channel in range stays in range.
 use Prim.Native.Nat.{ℕ, _+_, _-_, _*_, _/_, _<_, _≤_}
-use mathlib.Core.Path.{_≡_}
+use mathlib.Core.Path.{_≡_, refl}
 use mathlib.Core.Bool.{Bool, true, false, cond, not, _&&_, and-eq-true-iff}
 use mathlib.Core.List.{[], _∷_}
 use native.Mathlib.Nat.{le-trans, mul-le-mul-left, mul-le-mul-right}
@@ -51,6 +51,14 @@ module _ (p : Pitch) (frequency period : ℕ) where
     pub pitch-due : 2047 ≤ p .counter + frequency → record { pitch = withTickCounter p 0 0; due = true } ≡ pitchStep period frequency p
     unfolding pitchStep pitchTicked
     pitch-due f = rw (le-leb period (p .tick + 1) t, lt-ltb (2047 - frequency) (p .counter + 1) (omega arith))
+
+  -- a step moves the tick and the counter
+  pub pitch-frequency : pitchStep period frequency p .pitch .frequency ≡ p .frequency
+  unfolding pitchStep pitchTicked
+  pitch-frequency =
+      ways (λ (q : Pitched). q .pitch .frequency ≡ p .frequency) (leb period (p .tick + 1)) (λ _.
+      ways (λ (q : Pitched). q .pitch .frequency ≡ p .frequency) (ltb (2047 - frequency) (p .counter + 1)) (λ _. refl) (λ _. refl))
+      (λ _. refl)
 
 -- step 3
 

@@ -11,11 +11,11 @@ use lib.Dec.{eqb, leb, ltb}
 use lib.IntN.{ℤ}
 use lib.ListN.{length, getD, drop, drop-of-length-le}
 use lib.Seq.{drop-cons}
-use Rattle.common.proofs.ChannelLaws.{side-le, channel-live-keeps, channel-pitch-keeps, channel-envelope-keeps, channel-stop-keeps, channel-write-keeps, level-le, left-le, right-le}
+use Rattle.common.proofs.ChannelLaws.{side-le, pitch-frequency, channel-live-keeps, channel-pitch-keeps, channel-envelope-keeps, channel-stop-keeps, channel-write-keeps, level-le, left-le, right-le}
 use Rattle.sweep.proofs.SweepModulateLaws.{sweep-write-keeps, sweep-step-keeps, sweep-step-channel}
 use Rattle.laws.proofs.Cases.{both, each, ways}
 use Rattle.common.specs.Bits.{bits}
-use Rattle.common.specs.Channel.{withPitch, pitchStep, side, channelInRange}
+use Rattle.common.specs.Channel.{withPitch, withTickCounter, pitchStep, side, channelInRange}
 use Rattle.voice.specs.ChannelEnum.{voiceOf, stopVoice, taps, isIn, waveWrite, noiseWrite, kindWrite, periodOf, frequencyOf, newBit, clocked, nextSample, sampled, stepFrequency, stepSweepOf, stepSweep, isTap, waveKindInRange, sweptKindInRange, noiseKindInRange, sampleOf, heard, stepAutoStop, stepEnvelope, voiceWrite, waveInRange, sweptInRange, noiseInRange}
 use Rattle.sweep.specs.SweepModulate.{sweepInRange}
 use Rattle.voice.specs.Waveform.{sampleAt}
@@ -75,13 +75,21 @@ module _
     (f : frequency ≡ frequencyOf (v .channel .pitch .frequency) (v .kind))
     (e : p ≡ pitchStep tick frequency (v .channel .pitch))
   where
-    pub sample-due : p .due ≡ true → voiceOf (withPitch (v .channel) (p .pitch)) (nextSample (v .kind)) ≡ stepFrequency v
-    unfolding stepFrequency sampled
-    sample-due d = rw (← t, ← f, ← e, d)
+    put-back : withTickCounter (v .channel .pitch) (p .pitch .tick) (p .pitch .counter) ≡ p .pitch
+    put-back =
+        let stays : p .pitch .frequency ≡ v .channel .pitch .frequency = ap (λ (q : Pitched). q .pitch .frequency) e ∙ pitch-frequency _ _ _ in
+        λ j. record { tick = p .pitch .tick; frequency = sym stays j; counter = p .pitch .counter }
 
-    pub sample-stays : p .due ≡ false → voiceOf (withPitch (v .channel) (p .pitch)) (v .kind) ≡ stepFrequency v
+    abbrev moved : Channel
+    moved = withPitch (v .channel) (withTickCounter (v .channel .pitch) (p .pitch .tick) (p .pitch .counter))
+
+    pub sample-due : p .due ≡ true → voiceOf moved (nextSample (v .kind)) ≡ stepFrequency v
     unfolding stepFrequency sampled
-    sample-stays d = rw (← t, ← f, ← e, d)
+    sample-due d = rw (put-back, ← t, ← f, ← e, d)
+
+    pub sample-stays : p .due ≡ false → voiceOf moved (v .kind) ≡ stepFrequency v
+    unfolding stepFrequency sampled
+    sample-stays d = rw (put-back, ← t, ← f, ← e, d)
 
 -- A kind in range stays in range.
 

@@ -258,8 +258,8 @@ pub fn step_sampling_frequency(v: Voice) -> Voice
         frequency(kind, pitch.frequency),
         cycles_per_frequency_tick(kind),
     );
-    let next = p.pitch;
-    c.pitch = next;
+    c.pitch.tick = p.pitch.tick;
+    c.pitch.counter = p.pitch.counter;
     if p.due {
         return Voice {
             channel: c,

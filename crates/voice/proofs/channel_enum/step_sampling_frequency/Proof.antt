@@ -16,10 +16,10 @@ increment-sample-requires : tie.Need-increment-sample-requires
 increment-sample-requires c κs = search needs
 
 returns : tie.Need-returns
-returns c = rw (c .increment-sample .ensures) (laws.sample-due _ (c .before .before .before .before .cycles-per-frequency-tick .ensures) (c .before .before .before .before .before .frequency .ensures) (c .before .before .before .pitch-step .ensures) (c .before .if1 .taken))
+returns c = rw (c .increment-sample .ensures) (laws.sample-due _ (c .before .before .before .before .before .cycles-per-frequency-tick .ensures) (c .before .before .before .before .before .before .frequency .ensures) (c .before .before .before .before .pitch-step .ensures) (c .before .if1 .taken))
 
 returns-2 : tie.Need-returns-2
-returns-2 c = laws.sample-stays _ (c .before .before .before .cycles-per-frequency-tick .ensures) (c .before .before .before .before .frequency .ensures) (c .before .before .pitch-step .ensures) (c .if1 .left)
+returns-2 c = laws.sample-stays _ (c .before .before .before .before .cycles-per-frequency-tick .ensures) (c .before .before .before .before .before .frequency .ensures) (c .before .before .before .pitch-step .ensures) (c .if1 .left)
 
 pub step-sampling-frequency-spec : {M : Type 1} → statement M
 step-sampling-frequency-spec =
