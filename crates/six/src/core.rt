@@ -7,6 +7,9 @@ use sweep::sweep_modulate::SweepModulate;
 use voice::channel_enum;
 use voice::channel_enum::Kind;
 use voice::channel_enum::Voice;
+use voice::channel_enum::step_auto_deactivate;
+use voice::channel_enum::step_envelope;
+use voice::channel_enum::step_sampling_frequency;
 ghost use mathlib.Core.Path.{_≡_};
 ghost use mathlib.Core.List.{map};
 ghost use Rattle.voice.specs.ChannelEnum.{stopVoice, stepAutoStop, stepFrequency, stepEnvelope};
@@ -132,45 +135,36 @@ pub fn stop_all(voices: [Voice; 6]) -> [Voice; 6]
     out
 }
 
-// Step 1 of a cycle, for all six.
-fn step_auto_deactivate(voices: [Voice; 6]) -> [Voice; 6]
-    ensures { λ r. ⌜ r ≡ map stepAutoStop voices ⌝ }
+// Steps 1 to 3 of a cycle: each voice is fetched once. Not a loop: with the three steps in it the compiler finds it too large to unroll, and
+// then copies each voice through memory. A voice's steps are three calls for the same reason (docs/PERFORMANCE.md).
+fn step_voices(voices: [Voice; 6]) -> [Voice; 6]
+    ensures { λ r. ⌜ r ≡ map (λ v. stepEnvelope (stepFrequency (stepAutoStop v))) voices ⌝ }
 {
     let mut out = voices;
-    let mut i = 0;
-    while i < 6 {
-        let v = out[i];
-        out[i] = channel_enum::step_auto_deactivate(v);
-        i += 1;
-    }
-    out
-}
-
-// Step 2.
-fn step_sampling_frequency(voices: [Voice; 6]) -> [Voice; 6]
-    ensures { λ r. ⌜ r ≡ map stepFrequency voices ⌝ }
-{
-    let mut out = voices;
-    let mut i = 0;
-    while i < 6 {
-        let v = out[i];
-        out[i] = channel_enum::step_sampling_frequency(v);
-        i += 1;
-    }
-    out
-}
-
-// Step 3.
-fn step_envelope(voices: [Voice; 6]) -> [Voice; 6]
-    ensures { λ r. ⌜ r ≡ map stepEnvelope voices ⌝ }
-{
-    let mut out = voices;
-    let mut i = 0;
-    while i < 6 {
-        let v = out[i];
-        out[i] = channel_enum::step_envelope(v);
-        i += 1;
-    }
+    let mut v = out[0];
+    v = step_auto_deactivate(v);
+    v = step_sampling_frequency(v);
+    out[0] = step_envelope(v);
+    v = out[1];
+    v = step_auto_deactivate(v);
+    v = step_sampling_frequency(v);
+    out[1] = step_envelope(v);
+    v = out[2];
+    v = step_auto_deactivate(v);
+    v = step_sampling_frequency(v);
+    out[2] = step_envelope(v);
+    v = out[3];
+    v = step_auto_deactivate(v);
+    v = step_sampling_frequency(v);
+    out[3] = step_envelope(v);
+    v = out[4];
+    v = step_auto_deactivate(v);
+    v = step_sampling_frequency(v);
+    out[4] = step_envelope(v);
+    v = out[5];
+    v = step_auto_deactivate(v);
+    v = step_sampling_frequency(v);
+    out[5] = step_envelope(v);
     out
 }
 
@@ -189,10 +183,8 @@ fn step_sweep_modulate(voices: [Voice; 6], modulation: &[i8; 32]) -> [Voice; 6]
 pub fn cycle(voices: [Voice; 6], modulation: &[i8; 32]) -> [Voice; 6]
     ensures { λ r. ⌜ r ≡ voicesAfter (now (modulation .entry)) voices ⌝ }
 {
-    let a = step_auto_deactivate(voices);
-    let b = step_sampling_frequency(a);
-    let c = step_envelope(b);
-    step_sweep_modulate(c, modulation)
+    let stepped = step_voices(voices);
+    step_sweep_modulate(stepped, modulation)
 }
 
 // What six voices add to each side.
