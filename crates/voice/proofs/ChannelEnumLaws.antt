@@ -1,7 +1,7 @@
 -- The cases of the definitions of specs/ChannelEnum.antt, one law each, over plain variables; then, that a voice in range stays in range.
 use Prim.Native.Nat.{ℕ, zero, suc, _+_, _*_, _/_, _%_, _^_, _<_, _≤_}
 use mathlib.Core.Path.{_≡_, refl, sym, ap, _∙_}
-use mathlib.Core.Bool.{Bool, true, false, cond, _&&_, Bool·beq, false≢true, and-eq-true-iff}
+use mathlib.Core.Bool.{Bool, true, false, cond, not, _&&_, Bool·beq, false≢true, and-eq-true-iff}
 use mathlib.Core.List.{List, [], _∷_}
 use native.Mathlib.Numerals.{add-one}
 use native.Mathlib.Omega.{arith}
@@ -15,16 +15,18 @@ use Rattle.common.proofs.ChannelLaws.{side-le, pitch-frequency, channel-live-ke
 use Rattle.sweep.proofs.SweepModulateLaws.{sweep-write-keeps, sweep-step-keeps, sweep-step-channel}
 use Rattle.laws.proofs.Cases.{both, each, ways}
 use Rattle.common.specs.Bits.{bits}
-use Rattle.common.specs.Channel.{withPitch, withTickCounter, pitchStep, side, channelInRange}
+use Rattle.common.specs.Channel.{withPitch, withTickCounter, withEnvelope, pitchStep, envelopeStep, side, channelInRange}
 use Rattle.voice.specs.ChannelEnum.{voiceOf, stopVoice, taps, isIn, waveWrite, noiseWrite, kindWrite, periodOf, frequencyOf, newBit, clocked, nextSample, sampled, stepFrequency, stepSweepOf, stepSweep, isTap, waveKindInRange, sweptKindInRange, noiseKindInRange, sampleOf, heard, stepAutoStop, stepEnvelope, voiceWrite, waveInRange, sweptInRange, noiseInRange}
-use Rattle.sweep.specs.SweepModulate.{sweepInRange}
+use Rattle.sweep.specs.SweepModulate.{sweepStep, sweepTicked, sweepPeriod, sweepDue, sweepOnce, sweepInRange}
 use Rattle.voice.specs.Waveform.{sampleAt}
 use Rattle.common.specs.declared.channel.Channel.{Channel}
+use Rattle.common.specs.declared.channel.Envelope.{Envelope}
 use Rattle.common.specs.declared.channel.Pitched.{Pitched}
 use Rattle.voice.specs.declared.channel_enum.Kind.{Kind}
 use Rattle.voice.specs.declared.channel_enum.Kind.the-variants.{Wave, Swept, Noise}
 use Rattle.voice.specs.declared.channel_enum.Reading.{Reading}
 use Rattle.voice.specs.declared.channel_enum.Voice.{Voice}
+use Rattle.sweep.specs.declared.sweep_modulate.Stepped.{Stepped}
 use Rattle.sweep.specs.declared.sweep_modulate.SweepModulate.{SweepModulate}
 
 -- the noise's shift register
@@ -90,6 +92,70 @@ module _
     pub sample-stays : p .due ≡ false → voiceOf moved (v .kind) ≡ stepFrequency v
     unfolding stepFrequency sampled
     sample-stays d = rw (put-back, ← t, ← f, ← e, d)
+
+-- Each of the three steps moves a part that the other two don't read: their order within a voice can't be told from the state.
+
+module _ (v : Voice) where
+  pub frequency-auto-stop : stepFrequency (stepAutoStop v) ≡ stepAutoStop (stepFrequency v)
+  unfolding stepFrequency sampled stepAutoStop
+  frequency-auto-stop = refl
+
+  pub envelope-auto-stop : stepEnvelope (stepAutoStop v) ≡ stepAutoStop (stepEnvelope v)
+  unfolding stepEnvelope stepAutoStop
+  envelope-auto-stop = refl
+
+  pub envelope-frequency : stepEnvelope (stepFrequency v) ≡ stepFrequency (stepEnvelope v)
+  unfolding stepEnvelope stepFrequency sampled
+  envelope-frequency = refl
+
+-- Nor can the sweep's place beside the envelope step. The other two come before it: it reads whether the voice plays, and moves the frequency.
+
+split : {P : Type 0} (b : Bool) → (b ≡ true → P) → (b ≡ false → P) → P
+split true t f = t refl
+split false t f = f refl
+
+module _ (entries : List ℤ) (c : Channel) (e : Envelope) where
+  abbrev beside : Stepped → Stepped
+  beside t = record { sweep = t .sweep; channel = withEnvelope (t .channel) e }
+
+  once-beside : (s : SweepModulate) → sweepOnce (withEnvelope c e) s ≡ beside (sweepOnce c s)
+  unfolding sweepOnce
+  once-beside s =
+      split (s .up) (λ u. split (ltb 2047 (s .current + s .current / 2 ^ s .shift)) (λ o. rw (u, o)) (λ o. rw (u, o))) (λ u. rw u)
+
+  due-beside : (s : SweepModulate) → sweepDue entries (withEnvelope c e) s ≡ beside (sweepDue entries c s)
+  unfolding sweepDue
+  due-beside s =
+      split (c .live .playing && s .enable && not (eqb (s .interval) 0)) (λ p.
+      split (s .modulate) (λ m. rw (p, m)) (λ m. rw (p, m) (once-beside _)))
+      (λ p. rw p)
+
+  sweep-beside : (s : SweepModulate) → sweepStep entries (withEnvelope c e) s ≡ beside (sweepStep entries c s)
+  unfolding sweepStep sweepTicked
+  sweep-beside s =
+      split (leb (sweepPeriod s) (s .step + 1)) (λ p.
+      split (leb (s .interval) (s .counter + 1)) (λ i. rw (p, i) (due-beside _)) (λ i. rw (p, i)))
+      (λ p. rw p)
+
+module _ (entries : List ℤ) (c : Channel) where
+  abbrev stepped : Envelope
+  stepped = envelopeStep (c .envelope)
+
+  kept-beside : (s : SweepModulate) → c .envelope ≡ sweepStep entries c s .channel .envelope
+  kept-beside s = sym (ap (λ (t : Stepped). t .channel .envelope) (sweep-beside entries c (c .envelope) s))
+
+  kind-beside : (k : Kind) → stepSweepOf entries (withEnvelope c stepped) k ≡ stepEnvelope (stepSweepOf entries c k)
+  unfolding stepEnvelope stepSweepOf
+  kind-beside (Wave bank position) = refl
+  kind-beside (Swept bank position sweep) =
+      let t : Stepped = sweepStep entries c sweep in
+      ap (λ (t : Stepped). voiceOf (t .channel) (Swept bank position (t .sweep))) (sweep-beside entries c stepped sweep)
+      ∙ ap (λ (f : Envelope). voiceOf (withEnvelope (t .channel) (envelopeStep f)) (Swept bank position (t .sweep))) (kept-beside sweep)
+  kind-beside (Noise shift tap output) = refl
+
+pub sweep-envelope : (entries : List ℤ) (v : Voice) → stepSweep entries (stepEnvelope v) ≡ stepEnvelope (stepSweep entries v)
+unfolding stepEnvelope
+sweep-envelope entries v = kind-beside entries (v .channel) (v .kind)
 
 -- A kind in range stays in range.
 
