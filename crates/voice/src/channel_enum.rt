@@ -258,6 +258,7 @@ pub fn step_sampling_frequency(v: Voice) -> Voice
         frequency(kind, pitch.frequency),
         cycles_per_frequency_tick(kind),
     );
+    // what moved, and not the whole pitch, whose eight bytes would be put together first (docs/PERFORMANCE.md)
     c.pitch.tick = p.pitch.tick;
     c.pitch.counter = p.pitch.counter;
     if p.due {
