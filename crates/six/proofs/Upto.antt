@@ -13,12 +13,6 @@ module _ {A : Type 0} (f : A → A) where
   upTo (suc j) [] = []
   upTo (suc j) (x ∷ l) = f x ∷ upTo j l
 
-  pub length-upTo : (j : ℕ) (l : List A) → length (upTo j l) ≡ length l
-  unfolding upTo
-  length-upTo zero l = refl
-  length-upTo (suc j) [] = refl
-  length-upTo (suc j) (x ∷ l) = ap suc (length-upTo j l)
-
   pub upTo-none : (l : List A) → l ≡ upTo 0 l
   unfolding upTo
   upTo-none l = refl

@@ -178,8 +178,8 @@ fn step_sweep_modulate(voices: [Voice; 6], modulation: &[i8; 32]) -> [Voice; 6]
     out
 }
 
-// Steps 1 to 4 of a cycle. A function of its own: with the four calls in the loop of `vsu::core::step` a cycle costs more than twice as
-// much (docs/PERFORMANCE.md).
+// Steps 1 to 4 of a cycle. A function of its own: with the two calls in the loop of `vsu::core::step` a cycle costs a fifth more
+// (docs/PERFORMANCE.md).
 pub fn cycle(voices: [Voice; 6], modulation: &[i8; 32]) -> [Voice; 6]
     ensures { λ r. ⌜ r ≡ voicesAfter (now (modulation .entry)) voices ⌝ }
 {
