@@ -1,7 +1,8 @@
 -- The cases of the definitions of specs/ChannelEnum.antt, one law each, over plain variables; then, that a voice in range stays in range.
 use Prim.Native.Nat.{ℕ, zero, suc, _+_, _*_, _/_, _%_, _^_, _<_, _≤_}
 use mathlib.Core.Path.{_≡_, refl, sym, ap, _∙_}
-use mathlib.Core.Bool.{Bool, true, false, cond, not, _&&_, Bool·beq, false≢true, and-eq-true-iff}
+use mathlib.Core.Bool.{Bool, true, false, cond, not, _&&_, Bool·beq, false≢true, and-eq-true-iff, or-true}
+use mathlib.Core.Logic.{inl, inr}
 use mathlib.Core.List.{List, [], _∷_}
 use native.Mathlib.Numerals.{add-one}
 use native.Mathlib.Omega.{arith}
@@ -13,11 +14,12 @@ use lib.ListN.{length, getD, drop, drop-of-length-le}
 use lib.Seq.{drop-cons}
 use Rattle.common.proofs.ChannelLaws.{side-le, pitch-frequency, channel-live-keeps, channel-pitch-keeps, channel-envelope-keeps, channel-stop-keeps, channel-write-keeps, level-le, left-le, right-le}
 use Rattle.sweep.proofs.SweepModulateLaws.{sweep-write-keeps, sweep-step-keeps, sweep-step-channel}
-use Rattle.laws.proofs.Cases.{both, each, ways}
+use types.Run.{OneOf}
+use Rattle.laws.proofs.Cases.{both, each, neither, ways}
 use Rattle.common.specs.Bits.{bits}
-use Rattle.common.specs.Channel.{withPitch, withTickCounter, withEnvelope, pitchStep, envelopeStep, side, channelInRange}
-use Rattle.voice.specs.ChannelEnum.{voiceOf, stopVoice, taps, isIn, waveWrite, noiseWrite, kindWrite, periodOf, frequencyOf, newBit, clocked, nextSample, sampled, stepFrequency, stepSweepOf, stepSweep, isTap, waveKindInRange, sweptKindInRange, noiseKindInRange, sampleOf, heard, stepAutoStop, stepEnvelope, voiceWrite, waveInRange, sweptInRange, noiseInRange}
-use Rattle.sweep.specs.SweepModulate.{sweepStep, sweepTicked, sweepPeriod, sweepDue, sweepOnce, sweepInRange}
+use Rattle.common.specs.Channel.{withPitch, withTickCounter, withEnvelope, pitchStep, envelopeStep, side, channelInRange, channelWrite}
+use Rattle.voice.specs.ChannelEnum.{voiceOf, stopVoice, taps, isIn, commonOffsets, offsetsOf, hasOffset, waveWrite, noiseWrite, kindWrite, periodOf, frequencyOf, newBit, clocked, nextSample, sampled, stepFrequency, stepSweepOf, stepSweep, isTap, waveKindInRange, sweptKindInRange, noiseKindInRange, sampleOf, heard, stepAutoStop, stepEnvelope, voiceWrite, waveInRange, sweptInRange, noiseInRange}
+use Rattle.sweep.specs.SweepModulate.{sweepStep, sweepTicked, sweepPeriod, sweepDue, sweepOnce, sweepInRange, sweepWrite}
 use Rattle.voice.specs.Waveform.{sampleAt}
 use Rattle.common.specs.declared.channel.Channel.{Channel}
 use Rattle.common.specs.declared.channel.Envelope.{Envelope}
@@ -66,6 +68,50 @@ element-le most (x ∷ l) h (suc i) = element-le most l (and-eq-true-iff (leb x 
 
 pub tap-le : (i : ℕ) → getD taps i 0 ≤ 14
 tap-le = element-le 14 taps refl
+
+-- the keys of a match's arm
+
+pub is-one : (ks : List ℕ) (x : ℕ) → OneOf ks x → true ≡ isIn x ks
+is-one [] x h = absurd h
+is-one (k ∷ []) x e = rw (eq-eqb x k e)
+is-one (k ∷ j ∷ ks) x (inl e) = rw (eq-eqb x k e)
+is-one (k ∷ j ∷ ks) x (inr h) = rw (← is-one (j ∷ ks) x h, or-true)
+
+pub is-none : (ks : List ℕ) (x : ℕ) → (OneOf ks x → ⊥) → false ≡ isIn x ks
+is-none [] x n = refl
+is-none (k ∷ []) x n = rw (ne-eqb x k n)
+is-none (k ∷ j ∷ ks) x n = rw (ne-eqb x k (λ e. n (inl e))) (is-none (j ∷ ks) x (λ h. n (inr h)))
+
+-- a write at an offset that the kind hasn't got leaves the voice as it is
+
+abbrev Apart : ℕ → List ℕ → Type 0
+Apart x [] = Unit
+Apart x (y ∷ ys) = (eqb x y ≡ false) × Apart x ys
+
+apart : (x : ℕ) (ys : List ℕ) → isIn x ys ≡ false → Apart x ys
+apart x [] h = tt
+apart x (y ∷ ys) h = let k = neither (eqb x y) (isIn x ys) h in (k .0, apart x ys (k .1))
+
+module _ (o b : ℕ) where
+  channel-still : (c : Channel) → Apart o commonOffsets → channelWrite o b c ≡ c
+  unfolding channelWrite
+  channel-still c a = rw (a .0, a .1 .0, a .1 .1 .0, a .1 .1 .1 .0, a .1 .1 .1 .1 .0, a .1 .1 .1 .1 .1 .0)
+
+  pub no-offset : (v : Voice) → hasOffset o (v .kind) ≡ false → voiceWrite o b v ≡ v
+  unfolding voiceWrite kindWrite waveWrite noiseWrite sweepWrite offsetsOf
+  no-offset v h = go (v .channel) (v .kind) h
+    where
+      go : (c : Channel) (k : Kind) → hasOffset o k ≡ false → voiceOf (channelWrite o b c) (kindWrite o b k) ≡ voiceOf c k
+      go c (Wave bank position) h =
+          let a = apart o (0x18 ∷ commonOffsets) h in
+          rw (channel-still c (a .1), a .0, a .1 .0)
+      go c (Swept bank position sweep) h =
+          let a = apart o (0x1C ∷ 0x18 ∷ commonOffsets) h in
+          let n : Apart o commonOffsets = a .1 .1 in
+          rw (channel-still c n, a .0, a .1 .0, n .0, n .1 .1 .0, n .1 .1 .1 .0, n .1 .1 .1 .1 .1 .0)
+      go c (Noise shift tap output) h =
+          let a : Apart o commonOffsets = apart o commonOffsets h in
+          rw (channel-still c a, a .0, a .1 .1 .1 .1 .1 .0)
 
 -- step 2
 

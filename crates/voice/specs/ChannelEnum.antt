@@ -61,6 +61,19 @@ kindWrite offset b (Noise shift tap output) = noiseWrite offset b shift tap outp
 unfoldable pub voiceWrite : ℕ → ℕ → Voice → Voice
 voiceWrite offset b v = voiceOf (channelWrite offset b (v .channel)) (kindWrite offset b (v .kind))
 
+-- The offsets that a kind has. "0x18 on noise, 0x1C except on channel 5, an offset not listed" is none.
+
+abbrev pub commonOffsets : List ℕ
+commonOffsets = 0x00 ∷ 0x04 ∷ 0x08 ∷ 0x0C ∷ 0x10 ∷ 0x14 ∷ []
+
+unfoldable pub offsetsOf : Kind → List ℕ
+offsetsOf (Wave bank position) = 0x18 ∷ commonOffsets
+offsetsOf (Swept bank position sweep) = 0x1C ∷ 0x18 ∷ commonOffsets
+offsetsOf (Noise shift tap output) = commonOffsets
+
+abbrev pub hasOffset : ℕ → Kind → Bool
+hasOffset offset k = isIn offset (offsetsOf k)
+
 -- One cycle.
 
 -- step 1

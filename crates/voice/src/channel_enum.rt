@@ -1,7 +1,7 @@
 // A voice: a common record and its kind. The Rust's `ChannelType`.
 ghost use mathlib.Core.Path.{_≡_};
 ghost use Prim.Native.Nat.{_≤_};
-ghost use Rattle.voice.specs.ChannelEnum.{stopVoice, isTap, tapOf, waveWrite, noiseWrite, kindWrite, voiceWrite, periodOf, frequencyOf, clocked, nextSample, stepAutoStop, stepFrequency, stepEnvelope, stepSweep, sampleOf, heard, waveInRange, sweptInRange, noiseInRange};
+ghost use Rattle.voice.specs.ChannelEnum.{stopVoice, isTap, tapOf, waveWrite, noiseWrite, kindWrite, voiceWrite, periodOf, frequencyOf, clocked, nextSample, stepAutoStop, stepFrequency, stepEnvelope, stepSweep, isIn, commonOffsets, hasOffset, sampleOf, heard, waveInRange, sweptInRange, noiseInRange};
 use crate::constants::NOISE_CHANNEL_BASE_FREQUENCY_CYCLE_COUNT;
 use crate::constants::WAVE_CHANNEL_BASE_FREQUENCY_CYCLE_COUNT;
 use crate::waveform;
@@ -146,6 +146,38 @@ pub fn set_u8(v: Voice, offset: u32, value: u8) -> Voice
     Voice {
         channel: channel::set_u8(c, offset, value),
         kind: kind_set_u8(k, offset, value),
+    }
+}
+
+fn is_common(offset: u32) -> bool
+    ensures { λ r. ⌜ r ≡ isIn offset commonOffsets ⌝ }
+{
+    match offset {
+        0x00 | 0x04 | 0x08 | 0x0C | 0x10 | 0x14 => true,
+        _ => false,
+    }
+}
+
+// Whether a channel of this kind has a register there: what the matches of `set_u8` have an arm for.
+pub fn has_offset(kind: Kind, offset: u32) -> bool
+    ensures { λ r. ⌜ r ≡ hasOffset offset kind ⌝ }
+{
+    let common = is_common(offset);
+    match kind {
+        Kind::Wave {
+            bank: _,
+            position: _,
+        } => (offset == 0x18) | common,
+        Kind::Swept {
+            bank: _,
+            position: _,
+            sweep: _,
+        } => (offset == 0x1C) | ((offset == 0x18) | common),
+        Kind::Noise {
+            shift: _,
+            tap: _,
+            output: _,
+        } => common,
     }
 }
 
