@@ -1,12 +1,12 @@
 -- The cases of the definitions of specs/Core.antt, over plain variables.
 use Prim.Native.Nat.{ℕ, _+_, _-_, _*_, _/_, _%_, _<_, _≤_}
 use mathlib.Core.Path.{_≡_, refl, sym, ap, _∙_}
-use mathlib.Core.Bool.{Bool, true, false, _&&_, and-assoc, and-true}
+use mathlib.Core.Bool.{Bool, true, false, cond, _&&_, and-assoc, and-true}
 use mathlib.Core.List.{List, [], _∷_, _++_, map, map-id}
 use native.Mathlib.Numerals.{add-one}
 use native.Mathlib.Omega.{arith}
-use borrow.Author.Tests.{lt-leb, le-leb, lt-ltb, ne-eqb}
-use lib.Dec.{leb}
+use borrow.Author.Tests.{lt-leb, le-leb, lt-ltb, le-ltb, ltb-false, ne-eqb}
+use lib.Dec.{leb, ltb}
 use lib.IntN.{ℤ, pos}
 use lib.Signed.{mag}
 use mir.Syntax.{w8, w16}
@@ -15,14 +15,16 @@ use denote.Array.{each}
 use denote.Shadow.{shadow}
 use denote.Signed.{SInt}
 use lib.ListN.{getD, set, drop, length, length-map, drop-of-length-le}
-use lib.Seq.{drop-cons, set-out}
+use lib.Seq.{drop-cons, set-getD, set-out}
+use Rattle.laws.proofs.Cases.{ways}
 use Rattle.refusal.proofs.RefusalLaws as order
 use Rattle.refusal.specs.Refusal.{Tells}
 use Rattle.common.specs.Bits.{bit, signed}
-use Rattle.voice.specs.ChannelEnum.{stopVoice, voiceWrite}
+use Rattle.voice.proofs.ChannelEnumLaws.{no-offset}
+use Rattle.voice.specs.ChannelEnum.{hasOffset, stopVoice, voiceWrite}
 use Rattle.voice.specs.declared.channel_enum.Voice.{Voice}
 use Rattle.six.specs.Core.{plays, anyPlays, voiceAt, voicesInRange}
-use Rattle.vsu.specs.Core.{decodeOf, between, write, writeTo, withWaves, withModulation, withVoices, frameSide, allAtMost, allBytes, shaped, inRange, run, frames, framesDue, sides, unitAnswer, movedBy, writeOf, advanceOf, runAnswer, RunGives, ranBy, runOf}
+use Rattle.vsu.specs.Core.{decodeOf, between, write, writeTo, sortOf, says, saidAnswer, writtenBy, withWaves, withModulation, withVoices, frameSide, allAtMost, allBytes, shaped, inRange, run, frames, framesDue, sides, unitAnswer, movedBy, writeOf, advanceOf, runAnswer, RunGives, ranBy, runOf}
 use Rattle.refusal.specs.declared.Answer.the-variants.{Accepted, Refused}
 use Rattle.refusal.specs.declared.Refusal.{Refusal}
 use Rattle.refusal.specs.declared.Refusal.the-variants.{State, Room}
@@ -30,7 +32,10 @@ use Rattle.vsu.specs.declared.core.Moved.{Moved}
 use Rattle.vsu.specs.declared.core.Ran.{Ran}
 use Rattle.vsu.specs.declared.core.Register.{Register}
 use Rattle.vsu.specs.declared.core.Register.the-variants as registers
+use Rattle.vsu.specs.declared.core.Said.{Said}
+use Rattle.vsu.specs.declared.core.Said.the-variants as said
 use Rattle.vsu.specs.declared.core.Vsu.{Vsu}
+use Rattle.vsu.specs.declared.core.Written.{Written}
 
 -- an array's length, where it is told of the elements' machine values
 pub length-told : (X Y : Type 0) (f : X → Y) (l : List X) (n : ℕ) → length (map f l) ≡ n → length l ≡ n
@@ -155,6 +160,73 @@ module _ (u : Vsu) (b a : ℕ) where
   pub decoded : {r q : Register} {t : Vsu} → r ≡ decodeOf a → r ≡ q → t ≡ writeTo q b u → t ≡ write a b u
   decoded e k p = p ∙ ap (λ (r : Register). writeTo r b u) (sym k ∙ e)
 
+-- what a write says
+
+module _ (k o : ℕ) (vs : List Voice) where
+  pub sort-channel : k < length vs → {h : Bool} {s : Said} → h ≡ hasOffset o (voiceAt k vs .kind) → s ≡ cond h said.Taken said.NoRegister → s ≡ sortOf (registers.Channel k o) vs
+  unfolding sortOf
+  sort-channel l e f = f ∙ rw (lt-ltb k (length vs) l, e)
+
+  pub sort-past : length vs ≤ k → said.NoRegister ≡ sortOf (registers.Channel k o) vs
+  unfolding sortOf
+  sort-past l = rw (le-ltb k (length vs) l)
+
+pub sort-wave : (at : ℕ) (vs : List Voice) {p : Bool} {s : Said} → p ≡ anyPlays vs → s ≡ cond p said.Held said.Taken → s ≡ sortOf (registers.Wave at) vs
+unfolding sortOf
+sort-wave at vs e f = f ∙ rw e
+
+pub sort-modulation : (at : ℕ) (vs : List Voice) {s : Said} → s ≡ cond (plays (voiceAt 4 vs)) said.Held said.Taken → s ≡ sortOf (registers.Modulation at) vs
+unfolding sortOf
+sort-modulation at vs f = f
+
+pub sort-stop : (vs : List Voice) → said.Taken ≡ sortOf registers.Stop vs
+unfolding sortOf
+sort-stop vs = refl
+
+pub sort-nothing : (vs : List Voice) → said.NoRegister ≡ sortOf registers.Nothing vs
+unfolding sortOf
+sort-nothing vs = refl
+
+pub sorted : (vs : List Voice) {r q : Register} {s : Said} → r ≡ q → s ≡ sortOf q vs → s ≡ sortOf r vs
+sorted vs e f = rw e f
+
+-- each of the three accepts the write
+abbrev Accepts : Said → Type 0
+Accepts s = saidAnswer s ≡ Accepted
+
+sort-answer : (r : Register) (vs : List Voice) → saidAnswer (sortOf r vs) ≡ Accepted
+unfolding sortOf saidAnswer
+sort-answer (registers.Wave at) vs = ways Accepts (anyPlays vs) (λ _. refl) (λ _. refl)
+sort-answer (registers.Modulation at) vs = ways Accepts (plays (voiceAt 4 vs)) (λ _. refl) (λ _. refl)
+sort-answer (registers.Channel k o) vs = ways Accepts (ltb k (length vs) && hasOffset o (voiceAt k vs .kind)) (λ _. refl) (λ _. refl)
+sort-answer registers.Stop vs = refl
+sort-answer registers.Nothing vs = refl
+
+-- A write that is held, or has no register, leaves the state as it is.
+pub unheard : (a b : ℕ) (u : Vsu) → (says a u ≡ said.Taken → ⊥) → write a b u ≡ u
+unfolding sortOf writeTo
+unheard a b u n = go (decodeOf a) n
+  where
+    go : (r : Register) → (sortOf r (u .voices) ≡ said.Taken → ⊥) → writeTo r b u ≡ u
+    go (registers.Wave at) n = held (anyPlays (u .voices)) n
+      where
+        held : (p : Bool) → (cond p said.Held said.Taken ≡ said.Taken → ⊥) → cond p u (withWaves u (set (u .waves) at (b % 64))) ≡ u
+        held true n = refl
+        held false n = absurd (n refl)
+    go (registers.Modulation at) n = held (plays (voiceAt 4 (u .voices))) n
+      where
+        held : (p : Bool) → (cond p said.Held said.Taken ≡ said.Taken → ⊥) → cond p u (withModulation u (set (u .modulation) at (signed b))) ≡ u
+        held true n = refl
+        held false n = absurd (n refl)
+    go (registers.Channel k o) n = nowhere (ltb k (length (u .voices))) (hasOffset o (voiceAt k (u .voices) .kind)) refl refl n
+      where
+        nowhere : (p q : Bool) → ltb k (length (u .voices)) ≡ p → hasOffset o (voiceAt k (u .voices) .kind) ≡ q → (cond (p && q) said.Taken said.NoRegister ≡ said.Taken → ⊥) → withVoices u (set (u .voices) k (voiceWrite o b (voiceAt k (u .voices)))) ≡ u
+        nowhere p false e f n = rw (no-offset o b (voiceAt k (u .voices)) f, set-getD)
+        nowhere true true e f n = absurd (n refl)
+        nowhere false true e f n = rw (set-out (u .voices) k _ (ltb-false k (length (u .voices)) e))
+    go registers.Stop n = absurd (n refl)
+    go registers.Nothing n = refl
+
 -- the frame
 
 pub frame-side : {sum : ℕ} → sum ≤ 5478 → toZ w16 (sum / 8 * 32) ≡ frameSide sum
@@ -170,6 +242,18 @@ module _ (u : Vsu) {p : Bool} (e : p ≡ inRange u) where
   pub unit-refused : p ≡ false → unitAnswer u ≡ Refused State
   unfolding unitAnswer
   unit-refused h = order.at-fault State (rw (← e, h))
+
+module _ (u : Vsu) (a b : ℕ) where
+  pub written-on : unitAnswer u ≡ Accepted → {t : Vsu} {r : Register} {s : Said} → t ≡ write a b u → r ≡ decodeOf a → s ≡ sortOf r (u .voices) →
+      (record { state = t; said = s } ≡ writeOf a b u) × Tells (saidAnswer s) (unitAnswer u)
+  unfolding writtenBy
+  written-on h {s = s} q d e =
+      let k : s ≡ says a u = e ∙ ap (λ (r : Register). sortOf r (u .voices)) d in
+      (rw (q, k, h), order.tells (ap saidAnswer k ∙ sort-answer (decodeOf a) (u .voices) ∙ sym h))
+
+  pub written-refused : {why : Refusal} → unitAnswer u ≡ Refused why → (record { state = u; said = said.Refused why } ≡ writeOf a b u) × Tells (saidAnswer (said.Refused why)) (unitAnswer u)
+  unfolding writtenBy saidAnswer
+  written-refused h = (rw h, order.tells (sym h))
 
 module _ (u : Vsu) where
   pub moved-on : unitAnswer u ≡ Accepted → {s t : Vsu} → s ≡ t → (record { state = s; answer = Accepted } ≡ movedBy (unitAnswer u) u t) × Tells Accepted (unitAnswer u)
@@ -213,8 +297,8 @@ module _ (u : Vsu) (h : inRange u ≡ true) where
   pub in-range-accepted : unitAnswer u ≡ Accepted
   in-range-accepted = unit-accepted u refl h
 
-  pub write-gives : (a b : ℕ) → _≡_ {A = Moved} (writeOf a b u) (record { state = write a b u; answer = Accepted })
-  unfolding movedBy
+  pub write-gives : (a b : ℕ) → _≡_ {A = Written} (writeOf a b u) (record { state = write a b u; said = says a u })
+  unfolding writtenBy
   write-gives a b = rw in-range-accepted
 
   pub advance-gives : (n : ℕ) → _≡_ {A = Moved} (advanceOf n u) (record { state = run n u; answer = Accepted })

@@ -2,7 +2,7 @@
 use Prim.Native.Nat.{ℕ, zero, suc, _+_, _-_, _*_, _/_, _%_, _≤_}
 use mathlib.Core.Bool.{Bool, true, cond, not, _&&_}
 use mathlib.Core.List.{List, [], _∷_, _++_, map}
-use lib.Dec.{eqb, leb}
+use lib.Dec.{eqb, leb, ltb}
 use lib.ListN.{set, drop, length, replicate}
 use lib.IntN.{ℤ, pos}
 use lib.Signed.{mag}
@@ -11,7 +11,7 @@ use Rattle.refusal.specs.declared.Answer.{Answer}
 use Rattle.refusal.specs.declared.Answer.the-variants.{Accepted, Refused}
 use Rattle.refusal.specs.declared.Refusal.the-variants.{State, Room}
 use Rattle.common.specs.Bits.{bit, signed}
-use Rattle.voice.specs.ChannelEnum.{voiceWrite, stopVoice}
+use Rattle.voice.specs.ChannelEnum.{voiceWrite, hasOffset, stopVoice}
 use Rattle.six.specs.Core.{offVoices, voicesAfter, sumsOf, voicesInRange}
 pub use Rattle.six.specs.Core.{voiceAt, plays}
 unfoldable pub use Rattle.six.specs.Core.{anyPlays}
@@ -23,7 +23,10 @@ use Rattle.vsu.specs.declared.core.Moved.{Moved}
 use Rattle.vsu.specs.declared.core.Ran.{Ran}
 use Rattle.vsu.specs.declared.core.Register.{Register}
 use Rattle.vsu.specs.declared.core.Register.the-variants as registers
+use Rattle.vsu.specs.declared.core.Said.{Said}
+use Rattle.vsu.specs.declared.core.Said.the-variants as said
 use Rattle.vsu.specs.declared.core.Vsu.{Vsu}
+use Rattle.vsu.specs.declared.core.Written.{Written}
 
 -- A state with one part changed.
 
@@ -75,6 +78,19 @@ writeTo registers.Nothing b u = u
 
 abbrev pub write : ℕ → ℕ → Vsu → Vsu
 write a b u = writeTo (decodeOf a) b u
+
+-- What a write says: "one of: taken, held off by playing, no such register".
+
+-- "An address outside the mapped ranges, or a channel offset that this channel hasn't got .., is no register. 0x580 is always taken."
+unfoldable pub sortOf : Register → List Voice → Said
+sortOf (registers.Wave at) vs = cond (anyPlays vs) said.Held said.Taken
+sortOf (registers.Modulation at) vs = cond (plays (voiceAt 4 vs)) said.Held said.Taken
+sortOf (registers.Channel k offset) vs = cond (ltb k (length vs) && hasOffset offset (voiceAt k vs .kind)) said.Taken said.NoRegister
+sortOf registers.Stop vs = said.Taken
+sortOf registers.Nothing vs = said.NoRegister
+
+abbrev pub says : ℕ → Vsu → Said
+says a u = sortOf (decodeOf a) (u .voices)
 
 -- One cycle, in this order.
 
@@ -152,8 +168,20 @@ unfoldable pub movedBy : Answer → Vsu → Vsu → Moved
 movedBy Accepted u t = record { state = t; answer = Accepted }
 movedBy (Refused why) u t = record { state = u; answer = Refused why }
 
-abbrev pub writeOf : ℕ → ℕ → Vsu → Moved
-writeOf a b u = movedBy (unitAnswer u) u (write a b u)
+-- of a write the answer is what it says, where that is no sort; s is the sort
+unfoldable pub writtenBy : Answer → Said → Vsu → Vsu → Written
+writtenBy Accepted s u t = record { state = t; said = s }
+writtenBy (Refused why) s u t = record { state = u; said = said.Refused why }
+
+abbrev pub writeOf : ℕ → ℕ → Vsu → Written
+writeOf a b u = writtenBy (unitAnswer u) (says a u) u (write a b u)
+
+-- the answer that a write's sort is: each of the three accepts it
+unfoldable pub saidAnswer : Said → Answer
+saidAnswer said.Taken = Accepted
+saidAnswer said.Held = Accepted
+saidAnswer said.NoRegister = Accepted
+saidAnswer (said.Refused why) = Refused why
 
 abbrev pub advanceOf : ℕ → Vsu → Moved
 advanceOf n u = movedBy (unitAnswer u) u (run n u)

@@ -6,13 +6,13 @@ use refusal::Refusal;
 use voice::channel_enum;
 use voice::channel_enum::Voice;
 ghost use mathlib.Core.Path.{_≡_};
-ghost use mathlib.Core.Bool.{true};
+ghost use mathlib.Core.Bool.{true, cond};
 ghost use mathlib.Core.List.{_++_};
 ghost use Prim.Native.Nat.{_*_, _<_, _≤_};
 ghost use lib.ListN.{length, drop};
 ghost use Rattle.refusal.specs.Refusal.{Tells};
 ghost use Rattle.six.specs.Core.{sumsOf};
-ghost use Rattle.vsu.specs.Core.{powerOn, decodeOf, writeTo, write, frameOf, run, frames, framesDue, sides, allAtMost, inRange, unitAnswer, writeOf, advanceOf, runAnswer, runOf, SmallSums};
+ghost use Rattle.vsu.specs.Core.{powerOn, decodeOf, writeTo, write, sortOf, saidAnswer, frameOf, run, frames, framesDue, sides, allAtMost, inRange, unitAnswer, writeOf, advanceOf, runAnswer, runOf, SmallSums};
 
 pub struct Vsu {
     pub voices: [Voice; 6],
@@ -35,7 +35,21 @@ pub enum Register {
     Nothing,
 }
 
-// The state after a call that makes no frames, and how it ended.
+// What a register write says: taken, held off by playing, no such register; or why it was refused.
+pub enum Said {
+    Taken,
+    Held,
+    NoRegister,
+    Refused(Refusal),
+}
+
+// The state after a write, and what it says.
+pub struct Written {
+    pub state: Vsu,
+    pub said: Said,
+}
+
+// The state after a run without frames, and how it ended.
 pub struct Moved {
     pub state: Vsu,
     pub answer: Answer,
@@ -143,6 +157,41 @@ fn set_u8(u: Vsu, address: u32, value: u8) -> Vsu
     }
 }
 
+fn held_while(plays: bool) -> Said
+    ensures { λ r. ⌜ r ≡ cond plays Said.Held Said.Taken ⌝ }
+{
+    if plays { Said::Held } else { Said::Taken }
+}
+
+fn taken_where(has: bool) -> Said
+    ensures { λ r. ⌜ r ≡ cond has Said.Taken Said.NoRegister ⌝ }
+{
+    if has { Said::Taken } else { Said::NoRegister }
+}
+
+// What a write to a register says.
+fn sort_of(voices: [Voice; 6], r: Register) -> Said
+    ensures { λ s. ⌜ s ≡ sortOf r voices ⌝ }
+{
+    match r {
+        Register::Wave(_) => held_while(six::core::playback_occuring(voices)),
+        Register::Modulation(_) => {
+            let v = voices[4];
+            held_while(v.channel.live.playing)
+        }
+        Register::Channel { index, offset } => {
+            if index < 6 {
+                let v = voices[index];
+                let k = v.kind;
+                return taken_where(channel_enum::has_offset(k, offset));
+            }
+            Said::NoRegister
+        }
+        Register::Stop => Said::Taken,
+        Register::Nothing => Said::NoRegister,
+    }
+}
+
 // The frame of six voices. Its caller has shown that they are in range, so that each side fits an i16.
 fn sample(voices: [Voice; 6], waves: &[u8; 160]) -> Frame
     requires { ⌜ SmallSums (sumsOf (now waves) voices) ⌝ }
@@ -178,18 +227,19 @@ pub fn in_range(u: Vsu) -> bool
 }
 
 // A register write.
-pub fn write(u: Vsu, address: u32, value: u8) -> Moved
-    ensures { λ r. ⌜ (r ≡ writeOf address value u) × Tells (r .answer) (unitAnswer u) ⌝ }
+pub fn write(u: Vsu, address: u32, value: u8) -> Written
+    ensures { λ r. ⌜ (r ≡ writeOf address value u) × Tells (saidAnswer (r .said)) (unitAnswer u) ⌝ }
 {
     if in_range(u) {
-        return Moved {
+        let voices = u.voices;
+        return Written {
             state: set_u8(u, address, value),
-            answer: Answer::Accepted,
+            said: sort_of(voices, decode(address)),
         };
     }
-    Moved {
+    Written {
         state: u,
-        answer: Answer::Refused(Refusal::State),
+        said: Said::Refused(Refusal::State),
     }
 }
 
