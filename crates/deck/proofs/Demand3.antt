@@ -33,13 +33,13 @@ use Rattle.refusal.proofs.RefusalLaws.{passed, was-sound}
 use Rattle.vsu.specs.Core.{allAtMost, framesDue, inRange, sides, unitAnswer}
 use Rattle.vsu.specs.declared.core.Vsu.{Vsu}
 use Rattle.vsu.proofs.RangeLaws.{range-facts, small-at}
-use Rattle.deck.specs.Calls.{AllSpare, Call, Deck, InRun, Named, Spares, after, afterAll, answerAt, answerOf, atStart, namedAll, namedBy, names, opened, setNow, yields, yieldsCount}
+use Rattle.deck.specs.Calls.{AllSpare, Call, Deck, InRun, Named, Spares, after, afterAll, answerAt, answerOf, atStart, inAll, namedAll, namedBy, names, opened, setNow, yields, yieldsCount, yieldsCounts, yieldsEntries}
 use Rattle.deck.specs.Calls.Call.{play, seek, setMark, setFree, clear, goTo}
 use Rattle.deck.specs.Player.{appliedPlace, clearAnswer, clearOf, fresh, goToAnswer, goToOf, imagePlace, inSlot, lengthIn, marked, memorySize, misplaced, movedOn, openOf, playAnswer, playBy, playOf, restarted, seekAnswer, seekOf, setAnswer, setBy, slotApplied, slotCycle, slotImage, slotOf, slotPlace, slotSize, soughtFrom, standingAnswer, turnBy, withMarks, writesIn}
-use Rattle.deck.specs.Unbroken.{framesIn, framesOn, stateAt}
+use Rattle.deck.specs.Unbroken.{countsOf, framesIn, framesOn, momentsIn, momentsOn, stateAt}
 use Rattle.deck.specs.declared.Player.{Player}
 use Rattle.deck.proofs.PlayerLaws.{clear-passed, go-to-passed, image-sound, play-passed, seek-passed, set-passed}
-use Rattle.deck.proofs.UnbrokenLaws.{bytes-of, due-most, due-none, frames-on-length, frames-span, state-add, state-keeps, state-run}
+use Rattle.deck.proofs.UnbrokenLaws.{bytes-of, due-most, due-none, frames-on-length, frames-span, in-all, moments-on-length, moments-span, state-add, state-keeps, state-run}
 
 -- "it writes only that slot"
 pub other-slot : (l : List ℕ) (j k : ℕ) (vs : List ℕ) → length vs ≡ slotSize → (j ≡ k → ⊥) → take slotSize (drop (slotPlace j) (sets l (slotPlace k) vs)) ≡ take slotSize (drop (slotPlace j) l)
@@ -362,6 +362,21 @@ module _ (b : List ℕ) (small : allAtMost 255 b ≡ true) (log : logAnswer edit
       play-counts n out Accepted = ap (λ (u : Vsu). framesDue u n) (h .unit) ∙ sym (span-length n)
       play-counts n out (Refused why) = refl
 
+      span-counts : (n : ℕ) → countsOf (momentsOn ws (p .cycle) (p .unit) n) ≡ countsOf (momentsIn ws (m .cycle) (m .cycle + n))
+      span-counts n = rw (moments-span ws (m .cycle) n, h .cycle, h .unit)
+
+      play-sorts : (n : ℕ) (out : List ℤ) (a : Answer) → playBy a p n b out .played .counts ≡ yieldsCounts ws (m .cycle) a n
+      unfolding playBy yieldsCounts
+      play-sorts n out Accepted = span-counts n
+      play-sorts n out (Refused why) = refl
+
+      sorts-in-all : (n : ℕ) (a : Answer) → inAll (yieldsCounts ws (m .cycle) a n) ≡ yieldsEntries ws (m .cycle) a n
+      unfolding yieldsCounts yieldsEntries
+      sorts-in-all n Accepted =
+          in-all (momentsIn ws (m .cycle) (m .cycle + n)) ∙ ap length (moments-span ws (m .cycle) n)
+          ∙ omega (arith, moments-on-length ws (m .cycle) (stateAt ws (m .cycle)) n)
+      sorts-in-all n (Refused why) = refl
+
       -- The answers.
 
       play-answer : (n : ℕ) (out : List ℤ) → playAnswer p n b (length out) ≡ answerAt ws cycles size (play n out) m
@@ -403,6 +418,9 @@ module _ (b : List ℕ) (small : allAtMost 255 b ≡ true) (log : logAnswer edit
       answers (clear k) = clear-answer k
       answers (goTo k) = go-to-answer k
 
+      sorts : (n : ℕ) (out : List ℤ) → playOf p n b out .played .counts ≡ yieldsCounts ws (m .cycle) (answerAt ws cycles size (play n out) m) n
+      sorts n out = rw (play-answer n out) (play-sorts n out (answerAt ws cycles size (play n out) m))
+
       in-run : InRun b ws cycles size d m
       in-run =
           record {
@@ -413,6 +431,8 @@ module _ (b : List ℕ) (small : allAtMost 255 b ≡ true) (log : logAnswer edit
             answers = answers;
             plays = λ n out. rw (play-answer n out) (play-yields n out (answerAt ws cycles size (play n out) m));
             counts = λ n out. rw (play-answer n out) (play-counts n out (answerAt ws cycles size (play n out) m));
+            sorts = sorts;
+            entries = λ n out. ap inAll (sorts n out) ∙ sorts-in-all n (answerAt ws cycles size (play n out) m);
           }
 
     -- Every call keeps the invariant: a new call adds a case.

@@ -1,11 +1,11 @@
 -- The unbroken run: in two spans; how many writes are due; a state in range stays in range; the output counter and the number of frames.
 use Prim.Native.Nat.{ℕ, zero, suc, _+_, _/_, _%_, _<_, _≤_}
 use mathlib.Core.Path.{_≡_, refl, sym, ap, ap₂, _∙_}
-use mathlib.Core.Bool.{true}
+use mathlib.Core.Bool.{Bool, true, false, cond}
 use mathlib.Core.List.{List, [], _∷_, _++_, append-assoc, append-nil}
 use native.Mathlib.Nat.{add-assoc, add-sub-cancel-left, add-zero, add-suc, zero-add}
 use native.Mathlib.Omega.{arith}
-use borrow.Author.Tests.{le-ltb}
+use borrow.Author.Tests.{eq-eqb, eqb-false, eqb-true, ne-eqb, le-ltb, lt-ltb, ltb-false, ltb-true}
 use lib.Dec.{eqb, ltb}
 use lib.ListN.{getD, length, length-append}
 use Rattle.laws.proofs.Cases.{ways}
@@ -15,12 +15,17 @@ use Rattle.vsu.proofs.RangeLaws.{cycle-keeps, power-on-in-range, small-at, writ
 use Rattle.vsu.proofs.RunLaws.{frames-length, output-at}
 use Rattle.common.specs.Bits.{bit}
 use Rattle.six.specs.Core.{anyPlays, plays, voiceAt}
-use Rattle.vsu.specs.Core.{allAtMost, cycle, decodeOf, frames, framesDue, inRange, made, powerOn, run, writeTo}
+use Rattle.vsu.proofs.CoreLaws.{says-accepted}
+use Rattle.refusal.specs.declared.Answer.the-variants.{Accepted}
+use Rattle.vsu.specs.Core.{allAtMost, cycle, decodeOf, frames, framesDue, inRange, made, powerOn, run, saidAnswer, says, write, writeTo}
+use Rattle.vsu.specs.declared.core.Said.{Said}
+use Rattle.vsu.specs.declared.core.Said.the-variants as said
 use Rattle.vsu.specs.declared.core.Frame.{Frame}
 use Rattle.vsu.specs.declared.core.Register.{Register}
 use Rattle.vsu.specs.declared.core.Register.the-variants as registers
 use Rattle.vsu.specs.declared.core.Vsu.{Vsu}
-use Rattle.deck.specs.Unbroken.{applyAt, framesIn, framesOf, framesOn, runOn, stateAt}
+use Rattle.deck.specs.Calls.{inAll}
+use Rattle.deck.specs.Unbroken.{Moment, applyAt, countsOf, framesIn, framesOf, framesOn, howMany, isHeld, isNone, isTaken, momentsAt, momentsIn, momentsOf, momentsOn, runOn, stateAt}
 
 -- two spans are one
 
@@ -30,14 +35,50 @@ run-on-add ws c u m zero = rw add-zero
 run-on-add ws c u m (suc n) =
     ap (runOn ws c u) (add-suc m n) ∙ ap₂ (λ (t : ℕ) (v : Vsu). cycle (applyAt ws t v)) (sym (add-assoc c m n)) (run-on-add ws c u m n)
 
+-- what the cycles of a span give one after the other, frames or moments: f is told the cycle and the state before its writes
+module _ {A : Type 0} (ws : List Write) (f : ℕ → Vsu → List A) (gives : ℕ → Vsu → ℕ → List A) (none : (c : ℕ) (u : Vsu) → gives c u 0 ≡ []) (more : (c : ℕ) (u : Vsu) (n : ℕ) → gives c u (suc n) ≡ gives c u n ++ f (c + n) (runOn ws c u n)) where
+  span-add : (c : ℕ) (u : Vsu) (m n : ℕ) → gives c u (m + n) ≡ gives c u m ++ gives (c + m) (runOn ws c u m) n
+  span-add c u m zero = rw (add-zero, none, append-nil)
+  span-add c u m (suc n) =
+      ap (gives c u) (add-suc m n)
+      ∙ more c u (m + n)
+      ∙ ap₂ (λ (xs : List A) (ys : List A). xs ++ ys) (span-add c u m n) (ap₂ f (sym (add-assoc c m n)) (run-on-add ws c u m n))
+      ∙ append-assoc (gives c u m) (gives (c + m) (runOn ws c u m) n) _
+      ∙ ap (λ (xs : List A). gives c u m ++ xs) (sym (more (c + m) (runOn ws c u m) n))
+
 pub frames-on-add : (ws : List Write) (c : ℕ) (u : Vsu) (m n : ℕ) → framesOn ws c u (m + n) ≡ framesOn ws c u m ++ framesOn ws (c + m) (runOn ws c u m) n
 unfolding framesOn
-frames-on-add ws c u m zero = rw (add-zero, append-nil)
-frames-on-add ws c u m (suc n) =
-    ap (framesOn ws c u) (add-suc m n)
-    ∙ ap₂ (λ (fs : List Frame) (gs : List Frame). fs ++ gs) (frames-on-add ws c u m n)
-    (ap₂ (λ (t : ℕ) (v : Vsu). made (applyAt ws t v)) (sym (add-assoc c m n)) (run-on-add ws c u m n))
-    ∙ append-assoc (framesOn ws c u m) (framesOn ws (c + m) (runOn ws c u m) n) _
+frames-on-add ws = span-add ws (λ (t : ℕ) (v : Vsu). made (applyAt ws t v)) (framesOn ws) (λ _ _. refl) (λ _ _ _. refl)
+
+pub moments-on-add : (ws : List Write) (c : ℕ) (u : Vsu) (m n : ℕ) → momentsOn ws c u (m + n) ≡ momentsOn ws c u m ++ momentsOn ws (c + m) (runOn ws c u m) n
+unfolding momentsOn
+moments-on-add ws = span-add ws (momentsAt ws) (momentsOn ws) (λ _ _. refl) (λ _ _ _. refl)
+
+-- past the first write, where it is due now: its moment is the present state, and the rest goes on from the state that it leaves
+
+module _ (w : Write) (ws : List Write) (c : ℕ) (u : Vsu) (e : w .due ≡ c) where
+  abbrev written : Vsu
+  written = write (w .address) (w .byte) u
+
+  pub run-past : (n : ℕ) → runOn (w ∷ ws) c u (suc n) ≡ runOn ws c written (suc n)
+  unfolding runOn applyAt
+  run-past zero = rw (eq-eqb (w .due) (c + 0) (omega arith))
+  run-past (suc n) =
+      rw (ne-eqb (w .due) (c + suc n) (omega arith)) (ap (λ (v : Vsu). cycle (applyAt ws (c + suc n) v)) (run-past n))
+
+  pub frames-past : (n : ℕ) → framesOn (w ∷ ws) c u (suc n) ≡ framesOn ws c written (suc n)
+  unfolding framesOn runOn applyAt
+  frames-past zero = rw (eq-eqb (w .due) (c + 0) (omega arith))
+  frames-past (suc n) =
+      rw (ne-eqb (w .due) (c + suc n) (omega arith))
+      (ap₂ (λ (fs : List Frame) (v : Vsu). fs ++ made (applyAt ws (c + suc n) v)) (frames-past n) (run-past n))
+
+  pub moments-past : (n : ℕ) → momentsOn (w ∷ ws) c u (suc n) ≡ record { entry = w; unit = u } ∷ momentsOn ws c written (suc n)
+  unfolding momentsOn runOn momentsAt
+  moments-past zero = rw (eq-eqb (w .due) (c + 0) (omega arith))
+  moments-past (suc n) =
+      rw (ne-eqb (w .due) (c + suc n) (omega arith))
+      (ap₂ (λ (ms : List Moment) (v : Vsu). ms ++ momentsAt ws (c + suc n) v) (moments-past n) (run-past n))
 
 -- the run from power-on is one of these
 
@@ -59,6 +100,15 @@ frames-of ws a (suc n) =
 pub frames-span : (ws : List Write) (a n : ℕ) → framesIn ws a (a + n) ≡ framesOn ws a (stateAt ws a) n
 frames-span ws a n = rw (add-sub-cancel-left a n) (frames-of ws a n)
 
+pub moments-of : (ws : List Write) (a n : ℕ) → momentsOf ws a n ≡ momentsOn ws a (stateAt ws a) n
+unfolding momentsOf momentsOn
+moments-of ws a zero = refl
+moments-of ws a (suc n) =
+    ap₂ (λ (ms : List Moment) (u : Vsu). ms ++ momentsAt ws (a + n) u) (moments-of ws a n) (state-add ws a n)
+
+pub moments-span : (ws : List Write) (a n : ℕ) → momentsIn ws a (a + n) ≡ momentsOn ws a (stateAt ws a) n
+moments-span ws a n = rw (add-sub-cancel-left a n) (moments-of ws a n)
+
 -- how many are due
 
 pub due-none : (ws : List Write) → dueBefore ws 0 ≡ 0
@@ -70,6 +120,55 @@ pub due-most : (ws : List Write) (c : ℕ) → dueBefore ws c ≤ length ws
 unfolding dueBefore
 due-most [] c = omega arith
 due-most (w ∷ ws) c = ways (λ (k : ℕ). k + dueBefore ws c ≤ suc (length ws)) (ltb (w .due) c) (λ _. omega (arith, due-most ws c)) (λ _. omega (arith, due-most ws c))
+
+-- the entries of a span are those due in it
+
+due-next : (d t : ℕ) → cond (ltb d (suc t)) 1 0 ≡ cond (eqb d t) 1 0 + cond (ltb d t) 1 0
+due-next d t =
+    ways (λ (k : ℕ). cond (ltb d (suc t)) 1 0 ≡ k + cond (ltb d t) 1 0) (eqb d t)
+    (λ e. let f : d ≡ t = eqb-true d t e in rw (lt-ltb d (suc t) (omega arith), le-ltb d t (omega arith)))
+    (λ e. let f : d ≡ t → ⊥ = eqb-false d t e in go (ltb d t) refl f)
+  where
+    go : (b : Bool) → ltb d t ≡ b → (d ≡ t → ⊥) → cond (ltb d (suc t)) 1 0 ≡ 0 + cond (ltb d t) 1 0
+    go true l n = rw (l, lt-ltb d (suc t) (omega (arith, ltb-true d t l)))
+    go false l n = rw (l, le-ltb d (suc t) (omega (arith, ltb-false d t l)))
+
+moments-at-length : (ws : List Write) (t : ℕ) (u : Vsu) → dueBefore ws (suc t) ≡ length (momentsAt ws t u) + dueBefore ws t
+unfolding momentsAt dueBefore
+moments-at-length [] t u = refl
+moments-at-length (w ∷ ws) t u =
+    rw (due-next (w .due) t)
+    (ways (λ (ms : List Moment). cond (eqb (w .due) t) 1 0 + cond (ltb (w .due) t) 1 0 + dueBefore ws (suc t) ≡ length ms + (cond (ltb (w .due) t) 1 0 + dueBefore ws t)) (eqb (w .due) t)
+    (λ e. rw e (omega (arith, moments-at-length ws t (write (w .address) (w .byte) u))))
+    (λ e. rw e (omega (arith, moments-at-length ws t u))))
+
+pub moments-on-length : (ws : List Write) (c : ℕ) (u : Vsu) (n : ℕ) → dueBefore ws (c + n) ≡ length (momentsOn ws c u n) + dueBefore ws c
+unfolding momentsOn
+moments-on-length ws c u zero = ap (dueBefore ws) (add-zero c) ∙ sym (zero-add (dueBefore ws c))
+moments-on-length ws c u (suc n) =
+    let ms : List Moment = momentsAt ws (c + n) (runOn ws c u n) in
+    ap (dueBefore ws) (add-suc c n)
+    ∙ omega (arith, moments-at-length ws (c + n) (runOn ws c u n), moments-on-length ws c u n, length-append (momentsOn ws c u n) ms)
+
+-- each is of one sort: the three numbers add up
+
+one-sort : (s : Said) → saidAnswer s ≡ Accepted → cond (isTaken s) 1 0 + cond (isHeld s) 1 0 + cond (isNone s) 1 0 ≡ 1
+unfolding saidAnswer
+one-sort said.Taken e = refl
+one-sort said.Held e = refl
+one-sort said.NoRegister e = refl
+one-sort (said.Refused why) e = let z : _≡_ {A = ℕ} 0 1 = cc in absurd (omega arith)
+
+pub in-all : (ms : List Moment) → inAll (countsOf ms) ≡ length ms
+unfolding howMany
+in-all [] = refl
+in-all (m ∷ ms) =
+    omega (arith, one-sort (says (m .entry .address) (m .unit)) (says-accepted (m .entry .address) (m .unit)), in-all ms)
+
+pub counts-append : (sort : Said → Bool) (ms ns : List Moment) → howMany sort (ms ++ ns) ≡ howMany sort ms + howMany sort ns
+unfolding howMany
+counts-append sort [] ns = omega arith
+counts-append sort (m ∷ ms) ns = omega (arith, counts-append sort ms ns)
 
 -- a state in range stays in range, and a write leaves the output counter
 

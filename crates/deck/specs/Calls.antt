@@ -1,7 +1,7 @@
 -- Demand 3: after any play, seek, set, clear and go-to-mark calls from a fresh opening, refused ones among them, the player
 -- stands at the cycle the calls name, in the state that one unbroken run from power-on, cycle by cycle, has there. Each accepted
 -- play yields exactly that run's frames in its span.
-use Prim.Native.Nat.{ℕ, _+_, _*_, _/_}
+use Prim.Native.Nat.{ℕ, _+_, _-_, _*_, _/_}
 use mathlib.Core.Path.{_≡_}
 use mathlib.Core.Bool.{cond, not}
 use mathlib.Core.List.{List, [], _∷_, _++_}
@@ -17,7 +17,8 @@ use Rattle.refusal.specs.declared.Refusal.the-variants.{BeyondEnd, MarkNumber, 
 use Rattle.vsu.specs.Core.{sides}
 use Rattle.marks.specs.Marks.{isSet, lowestFree, withMark, withoutMark}
 use Rattle.deck.specs.Player.{SetGives, clearAnswer, clearOf, fresh, goToAnswer, goToOf, memorySize, playAnswer, playOf, seekAnswer, seekOf, setAnswer, setLowest, setNamed}
-use Rattle.deck.specs.Unbroken.{framesIn, stateAt}
+use Rattle.deck.specs.Unbroken.{countsOf, framesIn, momentsIn, noCounts, stateAt}
+use Rattle.deck.specs.declared.Counts.{Counts}
 use Rattle.deck.specs.declared.Player.{Player}
 
 -- a call, with what it is given besides the record, the log and the mark memory: a play is lent a buffer
@@ -120,8 +121,22 @@ unfoldable pub yieldsCount : List Write → ℕ → Answer → ℕ → ℕ
 yieldsCount ws before Accepted n = length (framesIn ws before (before + n))
 yieldsCount ws before (Refused why) n = 0
 
+-- how many entries of each sort: of those due in its span, each at its moment in the run
+unfoldable pub yieldsCounts : List Write → ℕ → Answer → ℕ → Counts
+yieldsCounts ws before Accepted n = countsOf (momentsIn ws before (before + n))
+yieldsCounts ws before (Refused why) n = noCounts
+
+-- how many entries those are in all
+unfoldable pub yieldsEntries : List Write → ℕ → Answer → ℕ → ℕ
+yieldsEntries ws before Accepted n = dueBefore ws (before + n) - dueBefore ws before
+yieldsEntries ws before (Refused why) n = 0
+
+abbrev pub inAll : Counts → ℕ
+inAll c = c .taken + c .held + c .none
+
 -- What demand 3 says of a deck, where the calls have named m: it stands in the run of the log's writes at the cycle named, the next
--- call is answered as 01 says, and a play from there yields the run's frames. A play among the calls is the one after those before it.
+-- call is answered as 01 says, and a play from there yields the run's frames and counts the run's writes by what they say. A play among
+-- the calls is the one after those before it.
 pub record InRun (b : List ℕ) (ws : List Write) (cycles size : ℕ) (d : Deck) (m : Named) : Type 0 where
   pub cycle : d .player .cycle ≡ m .cycle
   pub unit : d .player .unit ≡ stateAt ws (m .cycle)
@@ -130,6 +145,8 @@ pub record InRun (b : List ℕ) (ws : List Write) (cycles size : ℕ) (d : Deck)
   pub answers : (c : Call) → answerOf b c d ≡ answerAt ws cycles size c m
   pub plays : (n : ℕ) (out : List ℤ) → playOf (d .player) n b out .out ≡ yields ws (m .cycle) (answerAt ws cycles size (play n out) m) n out
   pub counts : (n : ℕ) (out : List ℤ) → playOf (d .player) n b out .played .frames ≡ yieldsCount ws (m .cycle) (answerAt ws cycles size (play n out) m) n
+  pub sorts : (n : ℕ) (out : List ℤ) → playOf (d .player) n b out .played .counts ≡ yieldsCounts ws (m .cycle) (answerAt ws cycles size (play n out) m) n
+  pub entries : (n : ℕ) (out : List ℤ) → inAll (playOf (d .player) n b out .played .counts) ≡ yieldsEntries ws (m .cycle) (answerAt ws cycles size (play n out) m) n
 
 -- from a fresh opening, and any mark memory
 abbrev pub opened : List ℕ → Deck

@@ -20,7 +20,7 @@ use Rattle.refusal.specs.declared.Refusal.{Refusal}
 use Rattle.refusal.specs.declared.Refusal.the-variants.{Room, BeyondEnd, Place, MarkNumber, MarkUnset, MarksFull}
 use Rattle.table.specs.Table.{newest}
 use Rattle.vsu.specs.Core.{fitsIn, framesDue, powerOn, sides, unitAnswer}
-use Rattle.deck.specs.Unbroken.{framesOn, runOn}
+use Rattle.deck.specs.Unbroken.{countsOf, framesOn, momentsOn, noCounts, runOn}
 use Rattle.deck.specs.declared.Played.{Played}
 use Rattle.deck.specs.declared.Player.{Player}
 use Rattle.deck.specs.declared.Turn.{Turn}
@@ -67,7 +67,8 @@ movedOn ws p n =
       marks = p .marks;
     }
 
--- Play: "then 12, then frame room 2". "Frames fill the buffer's front, left first; the rest keeps its bytes."
+-- Play: "then 12, then frame room 2". "Frames fill the buffer's front, left first; the rest keeps its bytes." "Play answers with the number
+-- of each sort in its span".
 
 unfoldable pub playAnswer : Player → ℕ → List ℕ → ℕ → Answer
 playAnswer p n b room =
@@ -82,10 +83,17 @@ pub record PlayGives : Type 0 where
 unfoldable pub playBy : Answer → Player → ℕ → List ℕ → List ℤ → PlayGives
 playBy Accepted p n b out =
     record {
-      played = record { player = movedOn (writesIn b) p n; frames = framesDue (p .unit) n; answer = Accepted };
+      played =
+          record {
+            player = movedOn (writesIn b) p n;
+            frames = framesDue (p .unit) n;
+            counts = countsOf (momentsOn (writesIn b) (p .cycle) (p .unit) n);
+            answer = Accepted;
+          };
       out = sides (framesOn (writesIn b) (p .cycle) (p .unit) n) ++ drop (framesDue (p .unit) n * 2) out;
     }
-playBy (Refused why) p n b out = record { played = record { player = p; frames = 0; answer = Refused why }; out = out }
+playBy (Refused why) p n b out =
+    record { played = record { player = p; frames = 0; counts = noCounts; answer = Refused why }; out = out }
 
 abbrev pub playOf : Player → ℕ → List ℕ → List ℤ → PlayGives
 playOf p n b out = playBy (playAnswer p n b (length out)) p n b out

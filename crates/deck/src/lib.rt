@@ -24,9 +24,17 @@ pub struct Turn {
     pub answer: Answer,
 }
 
-// The same of a play, with the number of its frames.
+// How many entries were taken, were held off by playing, had no register.
+pub struct Counts {
+    pub taken: u32,
+    pub held: u32,
+    pub none: u32,
+}
+
+// The same of a play, with the number of its frames and what the entries of its span said.
 pub struct Played {
     pub player: Player,
     pub frames: u32,
+    pub counts: Counts,
     pub answer: Answer,
 }

@@ -13,7 +13,8 @@ use lib.Seq.{drop-drop, getD-drop, length-sets, sets, sets-eq, take-all}
 use Rattle.deck.proofs.PlayerLaws as deck
 use Rattle.deck.proofs.UnbrokenLaws.{due-none}
 use Rattle.deck.specs.Player.{appliedPlace, clearAnswer, clearOf, fresh, goToAnswer, goToOf, imagePlace, inSlot, lengthIn, memorySize, misplaced, movedOn, openOf, playAnswer, playBy, playOf, restarted, seekAnswer, setAnswer, setBy, setOf, slotApplied, slotCycle, slotImage, slotOf, slotPlace, slotSize, soughtFrom, standingAnswer, standingOf, turnBy, withMarks, writesIn}
-use Rattle.deck.specs.Unbroken.{framesOn, runOn}
+use Rattle.deck.specs.Unbroken.{countsOf, framesOn, momentsOn, noCounts, runOn}
+use Rattle.deck.specs.declared.Counts.{Counts}
 use Rattle.deck.specs.declared.Played.{Played}
 use Rattle.deck.specs.declared.Player.{Player}
 use Rattle.deck.specs.declared.Turn.{Turn}
@@ -172,7 +173,7 @@ module _ (p : Player) (n : ℕ) (b : List ℕ) (out : List ℤ) where
       ∙ rw (then-then a f (fault (not (leb (framesDue (p .unit) n) (length out / 2))) Room))
 
   pub play-stops : {e : Checked} → Gone b e (playAnswer p n b (length out)) → {t : Bool} → t ≡ not (isAccepted (checkedAnswer e)) → t ≡ true →
-      {a : Answer} → a ≡ checkedAnswer e → {r : Played} → r ≡ record { player = p; frames = 0; answer = a } → Plays r out
+      {a : Answer} → a ≡ checkedAnswer e → {r : Played} → r ≡ record { player = p; frames = 0; counts = noCounts; answer = a } → Plays r out
   unfolding playBy
   play-stops g i h e f =
       stopped-at b (playAnswer p n b (length out)) g i h
@@ -200,15 +201,17 @@ module _ (p : Player) (n : ℕ) (b : List ℕ) (out : List ℤ) where
     pub play-due : {u : Vsu} {due : ℕ} → u ≡ p .unit → due ≡ framesDue u n → due ≤ (479 + n) / 480
     play-due e d = let h = range-facts (p .unit) (deck.stands p b play-stands .ranged) .output in rw (d, e) (omega (arith, h))
 
-    pub play-made : {count due to applied : ℕ} {u v : Vsu} {after : List ℤ} {q : Player} {r : Played} → count ≡ countOf b → to ≡ p .cycle + n → u ≡ p .unit → due ≡ framesDue u n →
+    pub play-made : {count due to applied : ℕ} {u v : Vsu} {counts : Counts} {after : List ℤ} {r : Played} → count ≡ countOf b → to ≡ p .cycle + n → u ≡ p .unit → due ≡ framesDue u n →
         v ≡ runOn (writesFrom edition1 b count 0) (p .cycle) u (to - p .cycle) → applied ≡ dueBefore (writesFrom edition1 b count 0) to →
+        counts ≡ countsOf (momentsOn (writesFrom edition1 b count 0) (p .cycle) u (to - p .cycle)) →
         after ≡ sides (framesOn (writesFrom edition1 b count 0) (p .cycle) u (to - p .cycle)) ++ drop (framesDue u (to - p .cycle) * 2) out →
-        q ≡ placedAt p v to applied → r ≡ record { player = q; frames = due; answer = Accepted } → Plays r after
+        r ≡ record { player = placedAt p v to applied; frames = due; counts = counts; answer = Accepted } → Plays r after
     unfolding playBy
-    play-made {to = to} k t e d x y z i f =
+    play-made {to = to} k t e d x y w z f =
         let same : to - p .cycle ≡ n = omega (arith, t) in
-        let m = i ∙ moved-to b p k n to (sym t) (rw (same, e) at x) y in
-        (rw (a, ← m, ← e, ← d) f, rw (a, ← k) (rw (same, e) at z), order.tells (ap (λ (r : Played). r .answer) f ∙ sym a))
+        let m = moved-to b p k n to (sym t) (rw (same, e) at x) y in
+        let l = rw (same, e, k) at w in
+        (rw (a, ← m, ← l, ← e, ← d) f, rw (a, ← k) (rw (same, e) at z), order.tells (ap (λ (r : Played). r .answer) f ∙ sym a))
 
 -- a seek
 

@@ -1,9 +1,9 @@
 -- A run through a log's writes: past a write, past cycles with none; and what the loops of `skip_to` and `run_to` hold.
 use Prim.Native.Nat.{ℕ, zero, suc, _+_, _-_, _*_, _<_, _≤_}
 use mathlib.Core.Path.{_≡_, refl, sym, ap, ap₂, _∙_}
-use mathlib.Core.Bool.{Bool, true, false, _&&_, and-false}
+use mathlib.Core.Bool.{Bool, true, false, cond, _&&_, and-false}
 use mathlib.Core.List.{List, [], _∷_, _++_, append-assoc, append-nil}
-use native.Mathlib.Nat.{zero-add, le-trans, le-refl}
+use native.Mathlib.Nat.{add-zero, zero-add, le-trans, le-refl}
 use native.Mathlib.Numerals.{add-one}
 use native.Mathlib.Omega.{arith}
 use borrow.Author.Tests.{lt-ltb, le-ltb, eq-eqb, ne-eqb, ltb-true, ltb-false}
@@ -19,13 +19,18 @@ use Rattle.vsu.proofs.RangeLaws.{range-facts, run-keeps, write-keeps}
 use Rattle.vsu.proofs.CoreLaws.{advance-gives, run-gives, write-gives}
 use Rattle.vsu.proofs.RunLaws.{frames-length, front-length, sides-append, sides-length}
 use Rattle.refusal.specs.declared.Answer.the-variants as answer
-use Rattle.vsu.specs.Core.{RunGives, advanceOf, cycle, frames, framesDue, inRange, made, run, runOf, sides, write, writeOf}
+use Rattle.vsu.specs.Core.{RunGives, advanceOf, cycle, frames, framesDue, inRange, made, run, runOf, says, sides, write, writeOf}
 use Rattle.vsu.specs.declared.core.Frame.{Frame}
 use Rattle.vsu.specs.declared.core.Moved.{Moved}
+use Rattle.vsu.specs.declared.core.Said.{Said}
+use Rattle.vsu.specs.declared.core.Said.the-variants as said
 use Rattle.vsu.specs.declared.core.Vsu.{Vsu}
-use Rattle.deck.specs.Unbroken.{applyAt, framesOn, runOn}
-use Rattle.deck.proofs.UnbrokenLaws.{frames-on-add, frames-on-length, run-on-add}
-use Rattle.player.specs.Walk.{nextOf, Walkable}
+use Rattle.vsu.specs.declared.core.Written.{Written}
+use Rattle.deck.specs.Calls.{inAll}
+use Rattle.deck.specs.Unbroken.{Moment, applyAt, countsOf, framesOn, howMany, isHeld, isNone, isTaken, momentsAt, momentsOn, noCounts, runOn}
+use Rattle.deck.specs.declared.Counts.{Counts}
+use Rattle.deck.proofs.UnbrokenLaws.{counts-append, due-most, frames-on-add, frames-on-length, frames-past, in-all, moments-on-add, moments-on-length, moments-past, run-on-add, run-past}
+use Rattle.player.specs.Walk.{countedBy, nextOf, Walkable}
 
 -- the due cycle that the code's walk goes by
 
@@ -112,20 +117,22 @@ record Standing (ws : List Write) (c k : ℕ) : Type 0 where
   pub known : k ≤ length ws
   pub later : Later c (drop k ws)
   pub apply : (t : ℕ) (u : Vsu) → c ≤ t → applyAt ws t u ≡ applyAt (drop k ws) t u
+  pub meet : (t : ℕ) (u : Vsu) → c ≤ t → momentsAt ws t u ≡ momentsAt (drop k ws) t u
   pub count : (t : ℕ) → c ≤ t → dueBefore ws t ≡ k + dueBefore (drop k ws) t
 
 one-more : (w : Write) (ws : List Write) (c k : ℕ) → w .due < c → Standing ws c k → Standing (w ∷ ws) c (suc k)
-unfolding applyAt dueBefore
+unfolding applyAt dueBefore momentsAt
 one-more w ws c k h s =
     record {
       known = omega (arith, s .known);
       later = s .later;
       apply = λ t u l. rw (ne-eqb (w .due) t (omega arith)) (s .apply t u l);
+      meet = λ t u l. rw (ne-eqb (w .due) t (omega arith)) (s .meet t u l);
       count = λ t l. rw (lt-ltb (w .due) t (omega arith)) (omega (arith, s .count t l));
     }
 
 all-later : (ws : List Write) (c : ℕ) → Later c ws → Standing ws c 0
-all-later ws c l = record { known = omega arith; later = l; apply = λ t u h. refl; count = λ t h. omega arith }
+all-later ws c l = record { known = omega arith; later = l; apply = λ t u h. refl; meet = λ t u h. refl; count = λ t h. omega arith }
 
 standing : (ws : List Write) (c : ℕ) → Rising ws → Standing ws c (dueBefore ws c)
 unfolding dueBefore
@@ -152,12 +159,24 @@ module _ (ws vs : List Write) (c : ℕ) (h : (t : ℕ) (u : Vsu) → c ≤ t →
       ap₂ (λ (fs : List Frame) (v : Vsu). fs ++ made v) (frames-same n)
       (h (c + n) (runOn ws c u n) (omega arith) ∙ ap (applyAt vs (c + n)) (run-same n))
 
+  moments-same : ((t : ℕ) (v : Vsu) → c ≤ t → momentsAt ws t v ≡ momentsAt vs t v) → (n : ℕ) → momentsOn ws c u n ≡ momentsOn vs c u n
+  unfolding momentsOn
+  moments-same g zero = refl
+  moments-same g (suc n) =
+      ap₂ (λ (ms : List Moment) (ns : List Moment). ms ++ ns) (moments-same g n)
+      (g (c + n) (runOn ws c u n) (omega arith) ∙ ap (momentsAt vs (c + n)) (run-same n))
+
 -- cycles at which nothing is due
 
 apply-quiet : (ws : List Write) (t : ℕ) (u : Vsu) → Later (suc t) ws → applyAt ws t u ≡ u
 unfolding applyAt
 apply-quiet [] t u l = refl
 apply-quiet (w ∷ ws) t u l = rw (ne-eqb (w .due) t (λ e. omega (arith, l .0))) (apply-quiet ws t u (l .1))
+
+meet-quiet : (ws : List Write) (t : ℕ) (u : Vsu) → Later (suc t) ws → momentsAt ws t u ≡ []
+unfolding momentsAt
+meet-quiet [] t u l = refl
+meet-quiet (w ∷ ws) t u l = rw (ne-eqb (w .due) t (λ e. omega (arith, l .0))) (meet-quiet ws t u (l .1))
 
 module _ (ws : List Write) (c : ℕ) (u : Vsu) where
   pub run-quiet : (n : ℕ) → Later (c + n) ws → runOn ws c u n ≡ run n u
@@ -173,24 +192,27 @@ module _ (ws : List Write) (c : ℕ) (u : Vsu) where
       ap₂ (λ (fs : List Frame) (v : Vsu). fs ++ made v) (frames-quiet n (later-le ws (omega arith) l))
       (apply-quiet ws (c + n) (runOn ws c u n) (later-le ws (omega arith) l) ∙ run-quiet n (later-le ws (omega arith) l))
 
--- the first write is due now
+  pub moments-quiet : (n : ℕ) → Later (c + n) ws → momentsOn ws c u n ≡ []
+  unfolding momentsOn
+  moments-quiet zero l = refl
+  moments-quiet (suc n) l =
+      ap₂ (λ (ms : List Moment) (ns : List Moment). ms ++ ns) (moments-quiet n (later-le ws (omega arith) l))
+      (meet-quiet ws (c + n) (runOn ws c u n) (later-le ws (omega arith) l))
 
-module _ (w : Write) (ws : List Write) (c : ℕ) (u : Vsu) (e : w .due ≡ c) where
-  abbrev written : Vsu
-  written = write (w .address) (w .byte) u
+-- one more of its sort
 
-  run-past : (n : ℕ) → runOn (w ∷ ws) c u (suc n) ≡ runOn ws c written (suc n)
-  unfolding runOn applyAt
-  run-past zero = rw (eq-eqb (w .due) (c + 0) (omega arith))
-  run-past (suc n) =
-      rw (ne-eqb (w .due) (c + suc n) (omega arith)) (ap (λ (v : Vsu). cycle (applyAt ws (c + suc n) v)) (run-past n))
+one-each : {a b c x y z : ℕ} → x ≡ a → y ≡ b → z ≡ c → _≡_ {A = Counts} (record { taken = a; held = b; none = c }) (record { taken = x; held = y; none = z })
+one-each e f g = rw (e, f, g)
 
-  frames-past : (n : ℕ) → framesOn (w ∷ ws) c u (suc n) ≡ framesOn ws c written (suc n)
-  unfolding framesOn runOn applyAt
-  frames-past zero = rw (eq-eqb (w .due) (c + 0) (omega arith))
-  frames-past (suc n) =
-      rw (ne-eqb (w .due) (c + suc n) (omega arith))
-      (ap₂ (λ (fs : List Frame) (v : Vsu). fs ++ made (applyAt ws (c + suc n) v)) (frames-past n) (run-past n))
+counted-more : (ms : List Moment) (m : Moment) → countedBy (countsOf ms) (says (m .entry .address) (m .unit)) ≡ countsOf (ms ++ m ∷ [])
+unfolding countedBy howMany
+counted-more ms m = rw (counts-append isTaken ms (m ∷ []), counts-append isHeld ms (m ∷ []), counts-append isNone ms (m ∷ [])) (go (says (m .entry .address) (m .unit)))
+  where
+    go : (s : Said) → _≡_ {A = Counts} (countedBy (countsOf ms) s) (record { taken = howMany isTaken ms + (cond (isTaken s) 1 0 + 0); held = howMany isHeld ms + (cond (isHeld s) 1 0 + 0); none = howMany isNone ms + (cond (isNone s) 1 0 + 0) })
+    go said.Taken = one-each refl (add-zero _) (add-zero _)
+    go said.Held = one-each (add-zero _) refl (add-zero _)
+    go said.NoRegister = one-each (add-zero _) (add-zero _) refl
+    go (said.Refused why) = one-each (add-zero _) (add-zero _) (add-zero _)
 
 -- What the loop of `skip_to` holds: of the writes, the first k have been applied, and the rest is ahead.
 
@@ -254,9 +276,12 @@ module _ (ws : List Write) (u : Vsu) (start target : ℕ) where
             ∙ ap (runOn (drop (k + 1) ws) cycle (write (w .address) (w .byte) unit)) (sym (one-turn n));
       }
 
-  -- what the unit's call makes of it
+  -- what the unit's call makes of it, and what it says
+  pub said-by : {unit : Vsu} {k cycle : ℕ} (w : Write) → Walking unit k cycle → {m : Written} → m ≡ writeOf (w .address) (w .byte) unit → m ≡ record { state = write (w .address) (w .byte) unit; said = says (w .address) unit }
+  said-by {unit} w h e = e ∙ write-gives unit (h .ranged) (w .address) (w .byte)
+
   pub written-by : {unit : Vsu} {k cycle : ℕ} (w : Write) → Walking unit k cycle → {v : Vsu} → v ≡ writeOf (w .address) (w .byte) unit .state → v ≡ write (w .address) (w .byte) unit
-  written-by {unit} w h e = e ∙ ap (λ (m : Moved). m .state) (write-gives unit (h .ranged) (w .address) (w .byte))
+  written-by {unit} w h e = e ∙ ap (λ (m : Written). m .state) (said-by w h refl)
 
   -- nothing is due before the cycle `due`
 
@@ -288,6 +313,13 @@ module _ (ws : List Write) (u : Vsu) (start target : ℕ) where
         ∙ ap₂ (λ (fs : List Frame) (gs : List Frame). fs ++ gs) (frames-quiet (drop k ws) cycle unit (due - cycle) no-write)
         (ap₂ (λ (t : ℕ) (v : Vsu). framesOn (drop k ws) t v (target - due)) there (run-quiet (drop k ws) cycle unit (due - cycle) no-write))
 
+    quiet-moments : momentsOn (drop k ws) cycle unit (target - cycle) ≡ momentsOn (drop k ws) due (run (due - cycle) unit) (target - due)
+    quiet-moments =
+        ap (momentsOn (drop k ws) cycle unit) two-spans
+        ∙ moments-on-add (drop k ws) cycle unit (due - cycle) (target - due)
+        ∙ ap₂ (λ (ms : List Moment) (ns : List Moment). ms ++ ns) (moments-quiet (drop k ws) cycle unit (due - cycle) no-write)
+        (ap₂ (λ (t : ℕ) (v : Vsu). momentsOn (drop k ws) t v (target - due)) there (run-quiet (drop k ws) cycle unit (due - cycle) no-write))
+
     pub walk-runs : Walking unit k cycle → Walking (run (due - cycle) unit) k due
     walk-runs h =
         record {
@@ -303,17 +335,21 @@ module _ (ws : List Write) (u : Vsu) (start target : ℕ) where
   walk-advances {unit} {k} {cycle} {due} h q e =
       let s = e ∙ ap (λ (m : Moved). m .state) (advance-gives unit (h .ranged) (due - cycle)) in rw s (walk-runs unit q h)
 
-  -- What the loop of `run_to` holds besides: the frames that are done stand at the front of the buffer.
+  -- What the loop of `run_to` holds besides: the frames that are done stand at the front of the buffer, and the entries that went in are
+  -- counted by what they said.
 
-  pub record Playing (before : List ℤ) (unit : Vsu) (k cycle : ℕ) (out : List ℤ) (at : ℕ) : Type 0 where
+  pub record Playing (before : List ℤ) (unit : Vsu) (k cycle : ℕ) (out : List ℤ) (at : ℕ) (counts : Counts) : Type 0 where
     pub walking : Walking unit k cycle
     pub done : List Frame
     pub front : at ≡ length (sides done)
     pub buffer : out ≡ sides done ++ drop at before
     pub whole : framesOn ws start u (target - start) ≡ done ++ framesOn (drop k ws) cycle unit (target - cycle)
+    pub met : List Moment
+    pub tally : counts ≡ countsOf met
+    pub all : momentsOn ws start u (target - start) ≡ met ++ momentsOn (drop k ws) cycle unit (target - cycle)
 
-  pub play-starts : {applied : ℕ} (before : List ℤ) → Rising ws → inRange u ≡ true → applied ≡ dueBefore ws start → start ≤ target → Playing before u applied start before 0
-  unfolding sides
+  pub play-starts : {applied : ℕ} (before : List ℤ) → Rising ws → inRange u ≡ true → applied ≡ dueBefore ws start → start ≤ target → Playing before u applied start before 0 noCounts
+  unfolding sides howMany
   play-starts {applied} before r h e l =
       let s : Standing ws start applied = rw e (standing ws start r) in
       record {
@@ -322,10 +358,14 @@ module _ (ws : List Write) (u : Vsu) (start target : ℕ) where
         front = refl;
         buffer = refl;
         whole = frames-same ws (drop applied ws) start (s .apply) u (target - start);
+        met = [];
+        tally = refl;
+        all = moments-same ws (drop applied ws) start (s .apply) u (s .meet) (target - start);
       }
 
-  pub play-writes : {before : List ℤ} {unit : Vsu} {k cycle : ℕ} {out : List ℤ} {at : ℕ} {w : Write} → Playing before unit k cycle out at → Entry k cycle w → Playing before (write (w .address) (w .byte) unit) (k + 1) cycle out at
-  play-writes {before} {unit} {k} {cycle} {out} {at} {w} h n =
+  pub play-writes : {before : List ℤ} {unit : Vsu} {k cycle : ℕ} {out : List ℤ} {at : ℕ} {counts : Counts} {w : Write} → Playing before unit k cycle out at counts → Entry k cycle w →
+      Playing before (write (w .address) (w .byte) unit) (k + 1) cycle out at (countedBy counts (says (w .address) unit))
+  play-writes {before} {unit} {k} {cycle} {out} {at} {counts} {w} h n =
       record {
         walking = walk-writes (h .walking) n;
         done = h .done;
@@ -337,9 +377,37 @@ module _ (ws : List Write) (u : Vsu) (start target : ℕ) where
             (ap₂ (λ (vs : List Write) (m : ℕ). framesOn vs cycle unit m) (n .next) (one-turn n)
             ∙ frames-past w (drop (k + 1) ws) cycle unit (n .now) (target - cycle - 1)
             ∙ ap (framesOn (drop (k + 1) ws) cycle (write (w .address) (w .byte) unit)) (sym (one-turn n)));
+        met = h .met ++ record { entry = w; unit = unit } ∷ [];
+        tally = rw (h .tally) (counted-more (h .met) (record { entry = w; unit = unit }));
+        all =
+            h .all
+            ∙ ap (λ (ms : List Moment). h .met ++ ms)
+            (ap₂ (λ (vs : List Write) (m : ℕ). momentsOn vs cycle unit m) (n .next) (one-turn n)
+            ∙ moments-past w (drop (k + 1) ws) cycle unit (n .now) (target - cycle - 1)
+            ∙ ap (λ (i : ℕ). record { entry = w; unit = unit } ∷ momentsOn (drop (k + 1) ws) cycle (write (w .address) (w .byte) unit) i) (sym (one-turn n)))
+            ∙ sym (append-assoc (h .met) (record { entry = w; unit = unit } ∷ []) _);
       }
 
-  module _ (ranged : inRange u ≡ true) (before : List ℤ) (room : framesDue u (target - start) * 2 ≤ length before) {unit : Vsu} {k cycle : ℕ} {out : List ℤ} {at : ℕ} (h : Playing before unit k cycle out at) where
+  pub play-wrote : {before : List ℤ} {unit : Vsu} {k cycle : ℕ} {out : List ℤ} {at : ℕ} {counts : Counts} {w : Write} → Playing before unit k cycle out at counts → Entry k cycle w →
+      {m : Written} → m ≡ writeOf (w .address) (w .byte) unit → {v : Vsu} → v ≡ m .state → {s : Said} → s ≡ m .said → {more : Counts} → more ≡ countedBy counts s → Playing before v (k + 1) cycle out at more
+  play-wrote {w = w} h n e {v} f {s} g i =
+      let r = said-by w (h .walking) e in
+      rw (i, g, f, r) (play-writes h n)
+
+  -- no number of entries is too large to count: they are some of the log's
+  pub play-few : {before : List ℤ} {unit : Vsu} {k cycle : ℕ} {out : List ℤ} {at : ℕ} {counts : Counts} → Playing before unit k cycle out at counts → inAll counts ≤ length ws
+  play-few {unit = unit} {k = k} {cycle = cycle} h =
+      rw (h .tally)
+      (omega (
+        arith,
+        in-all (h .met),
+        ap length (h .all),
+        length-append (h .met) (momentsOn (drop k ws) cycle unit (target - cycle)),
+        moments-on-length ws start u (target - start),
+        due-most ws (start + (target - start)),
+      ))
+
+  module _ (ranged : inRange u ≡ true) (before : List ℤ) (room : framesDue u (target - start) * 2 ≤ length before) {unit : Vsu} {k cycle : ℕ} {out : List ℤ} {at : ℕ} {counts : Counts} (h : Playing before unit k cycle out at counts) where
     -- the frames still to come have room behind those that are done
     to-come : at + framesDue unit (target - cycle) * 2 ≡ framesDue u (target - start) * 2
     to-come =
@@ -368,6 +436,13 @@ module _ (ws : List Write) (u : Vsu) (start target : ℕ) where
         let g : at ≡ framesDue u (target - start) * 2 =
         omega (arith, h .front, sides-length (h .done), ap length f, frames-on-length ws start u (range-facts u ranged .output) (target - start)) in
         h .buffer ∙ ap₂ (λ (fs : List Frame) (n : ℕ). sides fs ++ drop n before) (sym f) g
+
+    pub play-counted : target ≤ cycle → counts ≡ countsOf (momentsOn ws start u (target - start))
+    unfolding momentsOn
+    play-counted l =
+        let e : target - cycle ≡ 0 = omega arith in
+        h .tally
+        ∙ ap countsOf (sym (h .all ∙ ap (λ (n : ℕ). h .met ++ momentsOn (drop k ws) cycle unit n) e ∙ append-nil (h .met)))
 
     -- so do those up to the cycle `due`
     pub play-more : {due : ℕ} → Quiet k cycle due → at + framesDue unit (due - cycle) * 2 ≤ length before
@@ -416,7 +491,7 @@ module _ (ws : List Write) (u : Vsu) (start target : ℕ) where
             ∙ ap₂ (λ (xs : List ℤ) (zs : List ℤ). xs ++ zs) (sym (sides-append (h .done) (frames (due - cycle) unit)))
             (drop-drop (framesDue unit (due - cycle) * 2) at before ∙ ap (λ (i : ℕ). drop i before) d)
 
-        pub play-runs : {v : Vsu} → v ≡ given .ran .state → {ys : List ℤ} → ys ≡ given .out → {n : ℕ} → n ≡ framesDue unit (due - cycle) → Playing before v k due (take at out ++ (ys ++ drop size (drop at out))) (at + 2 * n)
+        pub play-runs : {v : Vsu} → v ≡ given .ran .state → {ys : List ℤ} → ys ≡ given .out → {n : ℕ} → n ≡ framesDue unit (due - cycle) → Playing before v k due (take at out ++ (ys ++ drop size (drop at out))) (at + 2 * n) counts
         play-runs {v} e {ys} f {n} m =
             let a = answered e in
             record {
@@ -438,6 +513,12 @@ module _ (ws : List Write) (u : Vsu) (start target : ℕ) where
                   ∙ ap (λ (gs : List Frame). h .done ++ gs) (quiet-frames unit q)
                   ∙ sym (append-assoc (h .done) (frames (due - cycle) unit) _)
                   ∙ ap (λ (v : Vsu). h .done ++ frames (due - cycle) unit ++ framesOn (drop k ws) due v (target - due)) (sym a);
+              met = h .met;
+              tally = h .tally;
+              all =
+                  h .all
+                  ∙ ap (λ (ms : List Moment). h .met ++ ms) (quiet-moments unit q)
+                  ∙ ap (λ (v : Vsu). h .met ++ momentsOn (drop k ws) due v (target - due)) (sym a);
             }
 
 -- The writes of an accepted log, and what the code reads of them.
@@ -472,8 +553,13 @@ module _ (b : List ℕ) (count : ℕ) where
     pub log-walks : Walking Log u start target u applied start
     log-walks = walk-starts Log u start target rising (p .ranged) (p .stands) (p .ahead)
 
-    pub log-plays : (before : List ℤ) → Playing Log u start target before u applied start before 0
+    pub log-plays : (before : List ℤ) → Playing Log u start target before u applied start before 0 noCounts
     log-plays before = play-starts Log u start target before rising (p .ranged) (p .stands) (p .ahead)
+
+    -- there is always room for one more
+    pub log-counts : {before : List ℤ} {unit : Vsu} {k cycle : ℕ} {out : List ℤ} {at : ℕ} {counts : Counts} → Playing Log u start target before unit k cycle out at counts → inAll counts < 4294967295
+    log-counts h =
+        omega (arith, play-few Log u start target h, writes-length edition1 b count 0, accepted edition1 b count (p .cycles) (p .accepted) .most)
 
     module _ {unit : Vsu} {k cycle due : ℕ} (h : Walking Log u start target unit k cycle) (e : due ≡ nextOf b count k target) where
       log-next : cycle < target → due ≤ cycle → (k < count) × (dueAt edition1 b k ≡ cycle)

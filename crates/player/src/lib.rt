@@ -2,8 +2,10 @@
 mod rows;
 mod walk;
 
+use crate::walk::Heard;
 use crate::walk::Walked;
 use deck::APPLIED_PLACE;
+use deck::Counts;
 use deck::IMAGE_PLACE;
 use deck::MEMORY_SIZE;
 use deck::Played;
@@ -22,6 +24,7 @@ ghost use Prim.Native.Nat.{_-_, _≤_};
 ghost use lib.ListN.{length};
 ghost use lib.Seq.{sets};
 ghost use Rattle.deck.specs.Player.{fresh, openOf, standingOf, movedOn, playAnswer, playOf, seekAnswer, seekOf, memorySize, slotPlace, slotOf, setAnswer, setOf, clearAnswer, clearOf, goToAnswer, goToOf, turnBy, withMarks, writesIn};
+ghost use Rattle.deck.specs.Unbroken.{noCounts};
 ghost use Rattle.deck.specs.declared.Player.{Player};
 ghost use Rattle.log.specs.Log.{edition1, logAnswer};
 ghost use Rattle.marks.specs.Marks.{marksSet, lowestFree};
@@ -130,13 +133,34 @@ fn standing(p: Player, log: &[u8]) -> Checked
     )
 }
 
-fn played(p: Player, frames: u32, answer: Answer) -> Played
-    ensures { λ r. ⌜ r ≡ record { player = p; frames = frames; answer = answer } ⌝ }
+// A play that was refused, and one that was not.
+
+fn unplayed(p: Player, answer: Answer) -> Played
+    ensures { λ r. ⌜ r ≡ record { player = p; frames = 0; counts = noCounts; answer = answer } ⌝ }
 {
+    let counts = Counts {
+        taken: 0,
+        held: 0,
+        none: 0,
+    };
     Played {
         player: p,
-        frames: frames,
+        frames: 0,
+        counts: counts,
         answer: answer,
+    }
+}
+
+fn played(p: Player, h: Heard, cycle: u32, frames: u32) -> Played
+    ensures { λ r. ⌜ r ≡ record { player = placedAt p (h .walked .unit) cycle (h .walked .applied); frames = frames; counts = h .counts; answer = Answer.Accepted } ⌝ }
+{
+    let w = h.walked;
+    let counts = h.counts;
+    Played {
+        player: walked(p, w, cycle),
+        frames: frames,
+        counts: counts,
+        answer: Answer::Accepted,
     }
 }
 
@@ -151,11 +175,11 @@ pub fn play(p: Player, n: u32, log: &[u8], out: &mut [i16]) -> Played
     let due = core::frames_due(u, n);
     let c = rows::row(c, due > (out.len() / 2) as u64, Refusal::Room);
     if rows::stops(c) {
-        return played(p, 0, rows::answer_of(c));
+        return unplayed(p, rows::answer_of(c));
     }
     let to = target as u32;
-    let w = walk::run_to(u, p.cycle, p.applied, to, log, rows::count_of(c), out);
-    played(walked(p, w, to), due as u32, Answer::Accepted)
+    let h = walk::run_to(u, p.cycle, p.applied, to, log, rows::count_of(c), out);
+    played(p, h, to, due as u32)
 }
 
 // The record at a cycle that is not earlier.

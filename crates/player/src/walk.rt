@@ -1,19 +1,29 @@
 // A unit run on through a log: the entries in the span and the cycles in the span, and no more.
+use deck::Counts;
 use vsu::core;
+use vsu::core::Said;
 use vsu::core::Vsu;
+use vsu::core::Written;
 ghost use mathlib.Core.Path.{_≡_};
 ghost use mathlib.Core.List.{_++_};
-ghost use Prim.Native.Nat.{_*_, _-_, _≤_};
+ghost use Prim.Native.Nat.{_*_, _-_, _<_, _≤_};
 ghost use lib.ListN.{drop, length};
 ghost use Rattle.log.specs.Log.{edition1, writesFrom, dueBefore};
 ghost use Rattle.vsu.specs.Core.{advanceOf, framesDue, runOf, sides, writeOf};
-ghost use Rattle.deck.specs.Unbroken.{runOn, framesOn};
-ghost use Rattle.player.specs.Walk.{nextOf, Walkable};
+ghost use Rattle.deck.specs.Calls.{inAll};
+ghost use Rattle.deck.specs.Unbroken.{countsOf, framesOn, momentsOn, runOn};
+ghost use Rattle.player.specs.Walk.{countedBy, nextOf, Walkable};
 
 // Where a walk has come to.
 pub struct Walked {
     pub unit: Vsu,
     pub applied: u32,
+}
+
+// The same of a walk with frames, and how many of its entries said what.
+pub struct Heard {
+    pub walked: Walked,
+    pub counts: Counts,
 }
 
 // The due cycle of the next entry, or the target where that is earlier or the log has ended.
@@ -38,6 +48,12 @@ fn written(u: Vsu, address: u16, byte: u8) -> Vsu
     m.state
 }
 
+fn wrote(u: Vsu, address: u16, byte: u8) -> Written
+    ensures { λ r. ⌜ r ≡ writeOf address byte u ⌝ }
+{
+    core::write(u, address as u32, byte)
+}
+
 fn advanced(u: Vsu, n: u32) -> Vsu
     ensures { λ r. ⌜ r ≡ advanceOf n u .state ⌝ }
 {
@@ -50,6 +66,39 @@ fn ran(u: Vsu, n: u32, out: &mut [i16]) -> Vsu
 {
     let m = core::run(u, n, out);
     m.state
+}
+
+fn state_in(m: Written) -> Vsu
+    ensures { λ r. ⌜ r ≡ m .state ⌝ }
+{
+    m.state
+}
+
+fn said_in(m: Written) -> Said
+    ensures { λ r. ⌜ r ≡ m .said ⌝ }
+{
+    m.said
+}
+
+// One more of what a write said.
+fn counted(c: Counts, s: Said) -> Counts
+    requires { ⌜ inAll c < 4294967295 ⌝ }
+    ensures { λ r. ⌜ r ≡ countedBy c s ⌝ }
+{
+    let mut d = c;
+    match s {
+        Said::Taken => {
+            d.taken = c.taken + 1;
+        }
+        Said::Held => {
+            d.held = c.held + 1;
+        }
+        Said::NoRegister => {
+            d.none = c.none + 1;
+        }
+        Said::Refused(_) => {}
+    }
+    d
 }
 
 // On to the target without frames.
@@ -94,21 +143,29 @@ pub(crate) fn run_to(
     log: &[u8],
     count: u32,
     out: &mut [i16],
-) -> Walked
+) -> Heard
     requires { ⌜ (Walkable (now log) count u start applied target) × (framesDue u (target - start) * 2 ≤ length (now out)) ⌝ }
-    ensures { λ r. ⌜ r .unit ≡ runOn (writesFrom edition1 (now (log .entry)) count 0) start u (target - start) ⌝ }
-    ensures { λ r. ⌜ r .applied ≡ dueBefore (writesFrom edition1 (now (log .entry)) count 0) target ⌝ }
+    ensures { λ r. ⌜ r .walked .unit ≡ runOn (writesFrom edition1 (now (log .entry)) count 0) start u (target - start) ⌝ }
+    ensures { λ r. ⌜ r .walked .applied ≡ dueBefore (writesFrom edition1 (now (log .entry)) count 0) target ⌝ }
+    ensures { λ r. ⌜ r .counts ≡ countsOf (momentsOn (writesFrom edition1 (now (log .entry)) count 0) start u (target - start)) ⌝ }
     ensures { λ _. ⌜ now (out .exit) ≡ sides (framesOn (writesFrom edition1 (now (log .entry)) count 0) start u (target - start)) ++ drop (framesDue u (target - start) * 2) (now (out .entry)) ⌝ }
 {
     let mut unit = u;
     let mut k = applied;
     let mut cycle = start;
     let mut at = 0;
+    let mut counts = Counts {
+        taken: 0,
+        held: 0,
+        none: 0,
+    };
     while cycle < target {
         let due = next_due(log, count, k, target);
         if due <= cycle {
             let w = log::write_at(log, k);
-            unit = written(unit, w.address, w.byte);
+            let m = wrote(unit, w.address, w.byte);
+            counts = counted(counts, said_in(m));
+            unit = state_in(m);
             k += 1;
         } else {
             let made = core::frames_due(unit, due - cycle);
@@ -117,8 +174,12 @@ pub(crate) fn run_to(
             cycle = due;
         }
     }
-    Walked {
+    let walked = Walked {
         unit: unit,
         applied: k,
+    };
+    Heard {
+        walked: walked,
+        counts: counts,
     }
 }

@@ -202,6 +202,9 @@ sort-answer (registers.Channel k o) vs = ways Accepts (ltb k (length vs) && hasO
 sort-answer registers.Stop vs = refl
 sort-answer registers.Nothing vs = refl
 
+pub says-accepted : (a : ℕ) (u : Vsu) → saidAnswer (says a u) ≡ Accepted
+says-accepted a u = sort-answer (decodeOf a) (u .voices)
+
 -- A write that is held, or has no register, leaves the state as it is.
 pub unheard : (a b : ℕ) (u : Vsu) → (says a u ≡ said.Taken → ⊥) → write a b u ≡ u
 unfolding sortOf writeTo

@@ -39,11 +39,11 @@ stops-requires c κs = search needs
 answer-of-requires : tie.Need-answer-of-requires
 answer-of-requires c κs = search needs
 
-played-requires : tie.Need-played-requires
-played-requires c κs = search needs
+unplayed-requires : tie.Need-unplayed-requires
+unplayed-requires c κs = search needs
 
 returns : tie.Need-returns
-returns c = laws.play-stops (c .before .before .before .before .before .before .before .before .before .before .before .before .args .p) (c .before .before .before .before .before .before .before .before .before .before .before .before .args .n) (now (c .before .before .before .before .before .before .before .before .before .before .before .before .args .log)) (now (c .before .before .before .before .before .before .before .before .before .before .before .before .args .out)) (laws.play-rows (c .before .before .before .before .before .before .before .before .before .before .before .before .args .p) (c .before .before .before .before .before .before .before .before .before .before .before .before .args .n) (now (c .before .before .before .before .before .before .before .before .before .before .before .before .args .log)) (now (c .before .before .before .before .before .before .before .before .before .before .before .before .args .out)) (c .before .before .before .before .before .before .before .before .before .before .standing .ensures) refl (c .before .before .before .before .before .before .before .before .is-past .ensures) (c .before .before .before .before .before .before .before .row .ensures) (c .before .before .before .before .before .before .unit-of .ensures) (c .before .before .before .before .before .frames-due .ensures) (c .before .before .before .before .row2 .ensures)) (c .before .before .before .stops .ensures) (c .before .before .if1 .taken) (c .before .answer-of .ensures) (c .played .ensures)
+returns c = laws.play-stops (c .before .before .before .before .before .before .before .before .before .before .before .before .args .p) (c .before .before .before .before .before .before .before .before .before .before .before .before .args .n) (now (c .before .before .before .before .before .before .before .before .before .before .before .before .args .log)) (now (c .before .before .before .before .before .before .before .before .before .before .before .before .args .out)) (laws.play-rows (c .before .before .before .before .before .before .before .before .before .before .before .before .args .p) (c .before .before .before .before .before .before .before .before .before .before .before .before .args .n) (now (c .before .before .before .before .before .before .before .before .before .before .before .before .args .log)) (now (c .before .before .before .before .before .before .before .before .before .before .before .before .args .out)) (c .before .before .before .before .before .before .before .before .before .before .standing .ensures) refl (c .before .before .before .before .before .before .before .before .is-past .ensures) (c .before .before .before .before .before .before .before .row .ensures) (c .before .before .before .before .before .before .unit-of .ensures) (c .before .before .before .before .before .frames-due .ensures) (c .before .before .before .before .row2 .ensures)) (c .before .before .before .stops .ensures) (c .before .before .if1 .taken) (c .before .answer-of .ensures) (c .unplayed .ensures)
 
 cast-to : tie.Need-cast-to
 cast-to c = omega (arith, laws.play-within (c .before .before .before .before .before .before .before .before .before .before .args .p) (c .before .before .before .before .before .before .before .before .before .before .args .n) (now (c .before .before .before .before .before .before .before .before .before .before .args .log)) (now (c .before .before .before .before .before .before .before .before .before .before .args .out)) (laws.play-goes (c .before .before .before .before .before .before .before .before .before .before .args .p) (c .before .before .before .before .before .before .before .before .before .before .args .n) (now (c .before .before .before .before .before .before .before .before .before .before .args .log)) (now (c .before .before .before .before .before .before .before .before .before .before .args .out)) (laws.play-rows (c .before .before .before .before .before .before .before .before .before .before .args .p) (c .before .before .before .before .before .before .before .before .before .before .args .n) (now (c .before .before .before .before .before .before .before .before .before .before .args .log)) (now (c .before .before .before .before .before .before .before .before .before .before .args .out)) (c .before .before .before .before .before .before .before .before .standing .ensures) refl (c .before .before .before .before .before .before .is-past .ensures) (c .before .before .before .before .before .row .ensures) (c .before .before .before .before .unit-of .ensures) (c .before .before .before .frames-due .ensures) (c .before .before .row2 .ensures)) (c .before .stops .ensures) (c .if1 .left)), laws.length-below (now (c .before .before .before .before .before .before .before .before .before .before .args .log)) (λ i. omega (arith, c .before .before .before .before .before .before .before .before .before .shared-slice-known .given i)))
@@ -54,20 +54,17 @@ count-of-requires c κs = search needs
 run-to-requires : tie.Need-run-to-requires
 run-to-requires c κs = (laws.walk-on (c .before .before .before .before .before .before .before .before .before .before .before .before .args .p) (now (c .before .before .before .before .before .before .before .before .before .before .before .before .args .log)) (laws.play-stands (c .before .before .before .before .before .before .before .before .before .before .before .before .args .p) (c .before .before .before .before .before .before .before .before .before .before .before .before .args .n) (now (c .before .before .before .before .before .before .before .before .before .before .before .before .args .log)) (now (c .before .before .before .before .before .before .before .before .before .before .before .before .args .out)) (laws.play-goes (c .before .before .before .before .before .before .before .before .before .before .before .before .args .p) (c .before .before .before .before .before .before .before .before .before .before .before .before .args .n) (now (c .before .before .before .before .before .before .before .before .before .before .before .before .args .log)) (now (c .before .before .before .before .before .before .before .before .before .before .before .before .args .out)) (laws.play-rows (c .before .before .before .before .before .before .before .before .before .before .before .before .args .p) (c .before .before .before .before .before .before .before .before .before .before .before .before .args .n) (now (c .before .before .before .before .before .before .before .before .before .before .before .before .args .log)) (now (c .before .before .before .before .before .before .before .before .before .before .before .before .args .out)) (c .before .before .before .before .before .before .before .before .before .before .standing .ensures) refl (c .before .before .before .before .before .before .before .before .is-past .ensures) (c .before .before .before .before .before .before .before .row .ensures) (c .before .before .before .before .before .before .unit-of .ensures) (c .before .before .before .before .before .frames-due .ensures) (c .before .before .before .before .row2 .ensures)) (c .before .before .before .stops .ensures) (c .before .before .if1 .left))) (rows.gone-count (now (c .before .before .before .before .before .before .before .before .before .before .before .before .args .log)) (playAnswer (c .before .before .before .before .before .before .before .before .before .before .before .before .args .p) (c .before .before .before .before .before .before .before .before .before .before .before .before .args .n) (now (c .before .before .before .before .before .before .before .before .before .before .before .before .args .log)) (length (now (c .before .before .before .before .before .before .before .before .before .before .before .before .args .out)))) (laws.play-rows (c .before .before .before .before .before .before .before .before .before .before .before .before .args .p) (c .before .before .before .before .before .before .before .before .before .before .before .before .args .n) (now (c .before .before .before .before .before .before .before .before .before .before .before .before .args .log)) (now (c .before .before .before .before .before .before .before .before .before .before .before .before .args .out)) (c .before .before .before .before .before .before .before .before .before .before .standing .ensures) refl (c .before .before .before .before .before .before .before .before .is-past .ensures) (c .before .before .before .before .before .before .before .row .ensures) (c .before .before .before .before .before .before .unit-of .ensures) (c .before .before .before .before .before .frames-due .ensures) (c .before .before .before .before .row2 .ensures)) (laws.play-goes (c .before .before .before .before .before .before .before .before .before .before .before .before .args .p) (c .before .before .before .before .before .before .before .before .before .before .before .before .args .n) (now (c .before .before .before .before .before .before .before .before .before .before .before .before .args .log)) (now (c .before .before .before .before .before .before .before .before .before .before .before .before .args .out)) (laws.play-rows (c .before .before .before .before .before .before .before .before .before .before .before .before .args .p) (c .before .before .before .before .before .before .before .before .before .before .before .before .args .n) (now (c .before .before .before .before .before .before .before .before .before .before .before .before .args .log)) (now (c .before .before .before .before .before .before .before .before .before .before .before .before .args .out)) (c .before .before .before .before .before .before .before .before .before .before .standing .ensures) refl (c .before .before .before .before .before .before .before .before .is-past .ensures) (c .before .before .before .before .before .before .before .row .ensures) (c .before .before .before .before .before .before .unit-of .ensures) (c .before .before .before .before .before .frames-due .ensures) (c .before .before .before .before .row2 .ensures)) (c .before .before .before .stops .ensures) (c .before .before .if1 .left)) (c .before .count-of .ensures)) (c .before .before .before .before .before .before .unit-of .ensures) (omega arith), laws.play-room (c .before .before .before .before .before .before .before .before .before .before .before .before .args .p) (c .before .before .before .before .before .before .before .before .before .before .before .before .args .n) (now (c .before .before .before .before .before .before .before .before .before .before .before .before .args .log)) (now (c .before .before .before .before .before .before .before .before .before .before .before .before .args .out)) (laws.play-goes (c .before .before .before .before .before .before .before .before .before .before .before .before .args .p) (c .before .before .before .before .before .before .before .before .before .before .before .before .args .n) (now (c .before .before .before .before .before .before .before .before .before .before .before .before .args .log)) (now (c .before .before .before .before .before .before .before .before .before .before .before .before .args .out)) (laws.play-rows (c .before .before .before .before .before .before .before .before .before .before .before .before .args .p) (c .before .before .before .before .before .before .before .before .before .before .before .before .args .n) (now (c .before .before .before .before .before .before .before .before .before .before .before .before .args .log)) (now (c .before .before .before .before .before .before .before .before .before .before .before .before .args .out)) (c .before .before .before .before .before .before .before .before .before .before .standing .ensures) refl (c .before .before .before .before .before .before .before .before .is-past .ensures) (c .before .before .before .before .before .before .before .row .ensures) (c .before .before .before .before .before .before .unit-of .ensures) (c .before .before .before .before .before .frames-due .ensures) (c .before .before .before .before .row2 .ensures)) (c .before .before .before .stops .ensures) (c .before .before .if1 .left)) (c .before .before .before .before .before .before .unit-of .ensures) refl)
 
-walked-requires : tie.Need-walked-requires
-walked-requires c κs = search needs
-
 cast-played : tie.Need-cast-played
-cast-played c = omega (arith, laws.play-due (c .before .before .before .before .before .before .before .before .before .before .before .before .before .before .before .args .p) (c .before .before .before .before .before .before .before .before .before .before .before .before .before .before .before .args .n) (now (c .before .before .before .before .before .before .before .before .before .before .before .before .before .before .before .args .log)) (now (c .before .before .before .before .before .before .before .before .before .before .before .before .before .before .before .args .out)) (laws.play-goes (c .before .before .before .before .before .before .before .before .before .before .before .before .before .before .before .args .p) (c .before .before .before .before .before .before .before .before .before .before .before .before .before .before .before .args .n) (now (c .before .before .before .before .before .before .before .before .before .before .before .before .before .before .before .args .log)) (now (c .before .before .before .before .before .before .before .before .before .before .before .before .before .before .before .args .out)) (laws.play-rows (c .before .before .before .before .before .before .before .before .before .before .before .before .before .before .before .args .p) (c .before .before .before .before .before .before .before .before .before .before .before .before .before .before .before .args .n) (now (c .before .before .before .before .before .before .before .before .before .before .before .before .before .before .before .args .log)) (now (c .before .before .before .before .before .before .before .before .before .before .before .before .before .before .before .args .out)) (c .before .before .before .before .before .before .before .before .before .before .before .before .before .standing .ensures) refl (c .before .before .before .before .before .before .before .before .before .before .before .is-past .ensures) (c .before .before .before .before .before .before .before .before .before .before .row .ensures) (c .before .before .before .before .before .before .before .before .before .unit-of .ensures) (c .before .before .before .before .before .before .before .before .frames-due .ensures) (c .before .before .before .before .before .before .before .row2 .ensures)) (c .before .before .before .before .before .before .stops .ensures) (c .before .before .before .before .before .if1 .left)) (c .before .before .before .before .before .before .before .before .before .unit-of .ensures) (c .before .before .before .before .before .before .before .before .frames-due .ensures), (c .before .before .before .before .before .before .before .before .before .before .before .before .before .before .before .fits .n))
+cast-played c = omega (arith, laws.play-due (c .before .before .before .before .before .before .before .before .before .before .before .before .before .before .args .p) (c .before .before .before .before .before .before .before .before .before .before .before .before .before .before .args .n) (now (c .before .before .before .before .before .before .before .before .before .before .before .before .before .before .args .log)) (now (c .before .before .before .before .before .before .before .before .before .before .before .before .before .before .args .out)) (laws.play-goes (c .before .before .before .before .before .before .before .before .before .before .before .before .before .before .args .p) (c .before .before .before .before .before .before .before .before .before .before .before .before .before .before .args .n) (now (c .before .before .before .before .before .before .before .before .before .before .before .before .before .before .args .log)) (now (c .before .before .before .before .before .before .before .before .before .before .before .before .before .before .args .out)) (laws.play-rows (c .before .before .before .before .before .before .before .before .before .before .before .before .before .before .args .p) (c .before .before .before .before .before .before .before .before .before .before .before .before .before .before .args .n) (now (c .before .before .before .before .before .before .before .before .before .before .before .before .before .before .args .log)) (now (c .before .before .before .before .before .before .before .before .before .before .before .before .before .before .args .out)) (c .before .before .before .before .before .before .before .before .before .before .before .before .standing .ensures) refl (c .before .before .before .before .before .before .before .before .before .before .is-past .ensures) (c .before .before .before .before .before .before .before .before .before .row .ensures) (c .before .before .before .before .before .before .before .before .unit-of .ensures) (c .before .before .before .before .before .before .before .frames-due .ensures) (c .before .before .before .before .before .before .row2 .ensures)) (c .before .before .before .before .before .stops .ensures) (c .before .before .before .before .if1 .left)) (c .before .before .before .before .before .before .before .before .unit-of .ensures) (c .before .before .before .before .before .before .before .frames-due .ensures), (c .before .before .before .before .before .before .before .before .before .before .before .before .before .before .fits .n))
 
-played-requires-2 : tie.Need-played-requires-2
-played-requires-2 c κs = search needs
+played-requires : tie.Need-played-requires
+played-requires c κs = search needs
 
 same-length : tie.Need-same-length
 same-length c = search needs
 
 returns-2 : tie.Need-returns-2
-returns-2 c = laws.play-made (c .before .before .before .before .before .before .before .before .before .before .before .before .before .before .before .before .args .p) (c .before .before .before .before .before .before .before .before .before .before .before .before .before .before .before .before .args .n) (now (c .before .before .before .before .before .before .before .before .before .before .before .before .before .before .before .before .args .log)) (now (c .before .before .before .before .before .before .before .before .before .before .before .before .before .before .before .before .args .out)) (laws.play-goes (c .before .before .before .before .before .before .before .before .before .before .before .before .before .before .before .before .args .p) (c .before .before .before .before .before .before .before .before .before .before .before .before .before .before .before .before .args .n) (now (c .before .before .before .before .before .before .before .before .before .before .before .before .before .before .before .before .args .log)) (now (c .before .before .before .before .before .before .before .before .before .before .before .before .before .before .before .before .args .out)) (laws.play-rows (c .before .before .before .before .before .before .before .before .before .before .before .before .before .before .before .before .args .p) (c .before .before .before .before .before .before .before .before .before .before .before .before .before .before .before .before .args .n) (now (c .before .before .before .before .before .before .before .before .before .before .before .before .before .before .before .before .args .log)) (now (c .before .before .before .before .before .before .before .before .before .before .before .before .before .before .before .before .args .out)) (c .before .before .before .before .before .before .before .before .before .before .before .before .before .before .standing .ensures) refl (c .before .before .before .before .before .before .before .before .before .before .before .before .is-past .ensures) (c .before .before .before .before .before .before .before .before .before .before .before .row .ensures) (c .before .before .before .before .before .before .before .before .before .before .unit-of .ensures) (c .before .before .before .before .before .before .before .before .before .frames-due .ensures) (c .before .before .before .before .before .before .before .before .row2 .ensures)) (c .before .before .before .before .before .before .before .stops .ensures) (c .before .before .before .before .before .before .if1 .left)) (rows.gone-count (now (c .before .before .before .before .before .before .before .before .before .before .before .before .before .before .before .before .args .log)) (playAnswer (c .before .before .before .before .before .before .before .before .before .before .before .before .before .before .before .before .args .p) (c .before .before .before .before .before .before .before .before .before .before .before .before .before .before .before .before .args .n) (now (c .before .before .before .before .before .before .before .before .before .before .before .before .before .before .before .before .args .log)) (length (now (c .before .before .before .before .before .before .before .before .before .before .before .before .before .before .before .before .args .out)))) (laws.play-rows (c .before .before .before .before .before .before .before .before .before .before .before .before .before .before .before .before .args .p) (c .before .before .before .before .before .before .before .before .before .before .before .before .before .before .before .before .args .n) (now (c .before .before .before .before .before .before .before .before .before .before .before .before .before .before .before .before .args .log)) (now (c .before .before .before .before .before .before .before .before .before .before .before .before .before .before .before .before .args .out)) (c .before .before .before .before .before .before .before .before .before .before .before .before .before .before .standing .ensures) refl (c .before .before .before .before .before .before .before .before .before .before .before .before .is-past .ensures) (c .before .before .before .before .before .before .before .before .before .before .before .row .ensures) (c .before .before .before .before .before .before .before .before .before .before .unit-of .ensures) (c .before .before .before .before .before .before .before .before .before .frames-due .ensures) (c .before .before .before .before .before .before .before .before .row2 .ensures)) (laws.play-goes (c .before .before .before .before .before .before .before .before .before .before .before .before .before .before .before .before .args .p) (c .before .before .before .before .before .before .before .before .before .before .before .before .before .before .before .before .args .n) (now (c .before .before .before .before .before .before .before .before .before .before .before .before .before .before .before .before .args .log)) (now (c .before .before .before .before .before .before .before .before .before .before .before .before .before .before .before .before .args .out)) (laws.play-rows (c .before .before .before .before .before .before .before .before .before .before .before .before .before .before .before .before .args .p) (c .before .before .before .before .before .before .before .before .before .before .before .before .before .before .before .before .args .n) (now (c .before .before .before .before .before .before .before .before .before .before .before .before .before .before .before .before .args .log)) (now (c .before .before .before .before .before .before .before .before .before .before .before .before .before .before .before .before .args .out)) (c .before .before .before .before .before .before .before .before .before .before .before .before .before .before .standing .ensures) refl (c .before .before .before .before .before .before .before .before .before .before .before .before .is-past .ensures) (c .before .before .before .before .before .before .before .before .before .before .before .row .ensures) (c .before .before .before .before .before .before .before .before .before .before .unit-of .ensures) (c .before .before .before .before .before .before .before .before .before .frames-due .ensures) (c .before .before .before .before .before .before .before .before .row2 .ensures)) (c .before .before .before .before .before .before .before .stops .ensures) (c .before .before .before .before .before .before .if1 .left)) (c .before .before .before .before .before .count-of .ensures)) refl (c .before .before .before .before .before .before .before .before .before .before .unit-of .ensures) (c .before .before .before .before .before .before .before .before .before .frames-due .ensures) (c .before .before .before .run-to .ensures .0) (c .before .before .before .run-to .ensures .1 .0) (c .before .before .before .run-to .ensures .1 .1) (c .before .walked .ensures) (c .played2 .ensures)
+returns-2 c = laws.play-made (c .before .before .before .before .before .before .before .before .before .before .before .before .before .before .before .args .p) (c .before .before .before .before .before .before .before .before .before .before .before .before .before .before .before .args .n) (now (c .before .before .before .before .before .before .before .before .before .before .before .before .before .before .before .args .log)) (now (c .before .before .before .before .before .before .before .before .before .before .before .before .before .before .before .args .out)) (laws.play-goes (c .before .before .before .before .before .before .before .before .before .before .before .before .before .before .before .args .p) (c .before .before .before .before .before .before .before .before .before .before .before .before .before .before .before .args .n) (now (c .before .before .before .before .before .before .before .before .before .before .before .before .before .before .before .args .log)) (now (c .before .before .before .before .before .before .before .before .before .before .before .before .before .before .before .args .out)) (laws.play-rows (c .before .before .before .before .before .before .before .before .before .before .before .before .before .before .before .args .p) (c .before .before .before .before .before .before .before .before .before .before .before .before .before .before .before .args .n) (now (c .before .before .before .before .before .before .before .before .before .before .before .before .before .before .before .args .log)) (now (c .before .before .before .before .before .before .before .before .before .before .before .before .before .before .before .args .out)) (c .before .before .before .before .before .before .before .before .before .before .before .before .before .standing .ensures) refl (c .before .before .before .before .before .before .before .before .before .before .before .is-past .ensures) (c .before .before .before .before .before .before .before .before .before .before .row .ensures) (c .before .before .before .before .before .before .before .before .before .unit-of .ensures) (c .before .before .before .before .before .before .before .before .frames-due .ensures) (c .before .before .before .before .before .before .before .row2 .ensures)) (c .before .before .before .before .before .before .stops .ensures) (c .before .before .before .before .before .if1 .left)) (rows.gone-count (now (c .before .before .before .before .before .before .before .before .before .before .before .before .before .before .before .args .log)) (playAnswer (c .before .before .before .before .before .before .before .before .before .before .before .before .before .before .before .args .p) (c .before .before .before .before .before .before .before .before .before .before .before .before .before .before .before .args .n) (now (c .before .before .before .before .before .before .before .before .before .before .before .before .before .before .before .args .log)) (length (now (c .before .before .before .before .before .before .before .before .before .before .before .before .before .before .before .args .out)))) (laws.play-rows (c .before .before .before .before .before .before .before .before .before .before .before .before .before .before .before .args .p) (c .before .before .before .before .before .before .before .before .before .before .before .before .before .before .before .args .n) (now (c .before .before .before .before .before .before .before .before .before .before .before .before .before .before .before .args .log)) (now (c .before .before .before .before .before .before .before .before .before .before .before .before .before .before .before .args .out)) (c .before .before .before .before .before .before .before .before .before .before .before .before .before .standing .ensures) refl (c .before .before .before .before .before .before .before .before .before .before .before .is-past .ensures) (c .before .before .before .before .before .before .before .before .before .before .row .ensures) (c .before .before .before .before .before .before .before .before .before .unit-of .ensures) (c .before .before .before .before .before .before .before .before .frames-due .ensures) (c .before .before .before .before .before .before .before .row2 .ensures)) (laws.play-goes (c .before .before .before .before .before .before .before .before .before .before .before .before .before .before .before .args .p) (c .before .before .before .before .before .before .before .before .before .before .before .before .before .before .before .args .n) (now (c .before .before .before .before .before .before .before .before .before .before .before .before .before .before .before .args .log)) (now (c .before .before .before .before .before .before .before .before .before .before .before .before .before .before .before .args .out)) (laws.play-rows (c .before .before .before .before .before .before .before .before .before .before .before .before .before .before .before .args .p) (c .before .before .before .before .before .before .before .before .before .before .before .before .before .before .before .args .n) (now (c .before .before .before .before .before .before .before .before .before .before .before .before .before .before .before .args .log)) (now (c .before .before .before .before .before .before .before .before .before .before .before .before .before .before .before .args .out)) (c .before .before .before .before .before .before .before .before .before .before .before .before .before .standing .ensures) refl (c .before .before .before .before .before .before .before .before .before .before .before .is-past .ensures) (c .before .before .before .before .before .before .before .before .before .before .row .ensures) (c .before .before .before .before .before .before .before .before .before .unit-of .ensures) (c .before .before .before .before .before .before .before .before .frames-due .ensures) (c .before .before .before .before .before .before .before .row2 .ensures)) (c .before .before .before .before .before .before .stops .ensures) (c .before .before .before .before .before .if1 .left)) (c .before .before .before .before .count-of .ensures)) refl (c .before .before .before .before .before .before .before .before .before .unit-of .ensures) (c .before .before .before .before .before .before .before .before .frames-due .ensures) (c .before .before .run-to .ensures .0) (c .before .before .run-to .ensures .1 .0) (c .before .before .run-to .ensures .1 .1 .0) (c .before .before .run-to .ensures .1 .1 .1) (c .played .ensures)
 
 pub play-spec : {M : Type 1} → statement M
 play-spec =
@@ -83,13 +80,12 @@ play-spec =
     row-requires-2
     stops-requires
     answer-of-requires
-    played-requires
+    unplayed-requires
     returns
     cast-to
     count-of-requires
     run-to-requires
-    walked-requires
     cast-played
-    played-requires-2
+    played-requires
     same-length
     returns-2)

@@ -9,10 +9,10 @@ use Rattle.player.proofs.walk.run_to.Statement.{statement}
 use Rattle.player.proofs.walk.run_to.Tie as tie
 
 abbrev Inv-loop : tie.InvT-loop
-Inv-loop start applied target log count out₀ unit₀ k₀ cycle₀ at₀ out unit k cycle at = laws.Playing (laws.Log log count) unit₀ start target out₀ unit k cycle out at
+Inv-loop start applied target log count out₀ unit₀ k₀ cycle₀ at₀ counts₀ out unit k cycle at counts = laws.Playing (laws.Log log count) unit₀ start target out₀ unit k cycle out at counts
 
 abbrev μ-loop : tie.MeasureT-loop
-μ-loop start applied target log count out₀ unit₀ k₀ cycle₀ at₀ out unit k cycle at = (target - cycle) + (count - k)
+μ-loop start applied target log count out₀ unit₀ k₀ cycle₀ at₀ counts₀ out unit k cycle at counts = (target - cycle) + (count - k)
 
 loop-holds : tie.Need-loop-holds Inv-loop μ-loop
 loop-holds c = laws.log-plays (now (c .before .args .log)) (c .before .args .count) (c .before .args .u) (c .before .args .start) (c .before .args .applied) (c .before .args .target) (c .before .pre .0) (now (c .before .args .out))
@@ -23,21 +23,32 @@ next-due-requires c κs = search needs
 write-at-requires : tie.Need-write-at-requires Inv-loop μ-loop
 write-at-requires c κs = search needs
 
-written-requires : tie.Need-written-requires Inv-loop μ-loop
-written-requires c κs = search needs
+wrote-requires : tie.Need-wrote-requires Inv-loop μ-loop
+wrote-requires c κs = search needs
+
+said-in-requires : tie.Need-said-in-requires Inv-loop μ-loop
+said-in-requires c κs = search needs
+
+counted-requires : tie.Need-counted-requires Inv-loop μ-loop
+counted-requires c κs = laws.log-counts (now (c .before .before .before .before .before .before .before .before .args .log)) (c .before .before .before .before .before .before .before .before .args .count) (c .before .before .before .before .before .before .before .before .args .u) (c .before .before .before .before .before .before .before .before .args .start) (c .before .before .before .before .before .before .before .before .args .applied) (c .before .before .before .before .before .before .before .before .args .target) (c .before .before .before .before .before .before .before .before .pre .0) (c .before .before .before .before .before .before .loop .inv)
+
+state-in-requires : tie.Need-state-in-requires Inv-loop μ-loop
+state-in-requires c κs = search needs
 
 -- the entry that is due has not been applied yet
-left : (c : tie.After-written Inv-loop μ-loop) → (c .before .before .before .before .before .loop .k) < (c .before .before .before .before .before .before .before .args .count)
-left c = laws.log-left (now (c .before .before .before .before .before .before .before .args .log)) (c .before .before .before .before .before .before .before .args .count) (c .before .before .before .before .before .before .before .args .u) (c .before .before .before .before .before .before .before .args .start) (c .before .before .before .before .before .before .before .args .applied) (c .before .before .before .before .before .before .before .args .target) (c .before .before .before .before .before .before .before .pre .0) (c .before .before .before .before .before .loop .inv .walking) (c .before .before .before .next-due .ensures) (c .before .before .before .before .loop-test .taken) (c .before .before .if1 .taken)
+left : (c : tie.After-state-in Inv-loop μ-loop) → (c .before .before .before .before .before .before .before .before .loop .k) < (c .before .before .before .before .before .before .before .before .before .before .args .count)
+left c = laws.log-left (now (c .before .before .before .before .before .before .before .before .before .before .args .log)) (c .before .before .before .before .before .before .before .before .before .before .args .count) (c .before .before .before .before .before .before .before .before .before .before .args .u) (c .before .before .before .before .before .before .before .before .before .before .args .start) (c .before .before .before .before .before .before .before .before .before .before .args .applied) (c .before .before .before .before .before .before .before .before .before .before .args .target) (c .before .before .before .before .before .before .before .before .before .before .pre .0) (c .before .before .before .before .before .before .before .before .loop .inv .walking) (c .before .before .before .before .before .before .next-due .ensures) (c .before .before .before .before .before .before .before .loop-test .taken) (c .before .before .before .before .before .if1 .taken)
 
 add-k : tie.Need-add-k Inv-loop μ-loop
-add-k c = omega (arith, left c)
+add-k c = omega (arith, left c, c .before .before .before .before .before .before .before .before .before .before .fits .count)
 
 loop-less : tie.Need-loop-less Inv-loop μ-loop
 loop-less c = omega (arith, left c)
 
 loop-again : tie.Need-loop-again Inv-loop μ-loop
-loop-again c = rw (c .written .ensures, laws.written-by (laws.Log (now (c .before .before .before .before .before .before .before .args .log)) (c .before .before .before .before .before .before .before .args .count)) (c .before .before .before .before .before .before .before .args .u) (c .before .before .before .before .before .before .before .args .start) (c .before .before .before .before .before .before .before .args .target) (c .before .write-at .result) (c .before .before .before .before .before .loop .inv .walking) refl) (laws.play-writes (laws.Log (now (c .before .before .before .before .before .before .before .args .log)) (c .before .before .before .before .before .before .before .args .count)) (c .before .before .before .before .before .before .before .args .u) (c .before .before .before .before .before .before .before .args .start) (c .before .before .before .before .before .before .before .args .target) (c .before .before .before .before .before .loop .inv) (laws.log-entry (now (c .before .before .before .before .before .before .before .args .log)) (c .before .before .before .before .before .before .before .args .count) (c .before .before .before .before .before .before .before .args .u) (c .before .before .before .before .before .before .before .args .start) (c .before .before .before .before .before .before .before .args .applied) (c .before .before .before .before .before .before .before .args .target) (c .before .before .before .before .before .before .before .pre .0) (c .before .before .before .before .before .loop .inv .walking) (c .before .before .before .next-due .ensures) (c .before .before .before .before .loop-test .taken) (c .before .before .if1 .taken) (c .before .write-at .ensures) (search needs)))
+loop-again c =
+    let entry = laws.log-entry (now (c .before .before .before .before .before .before .before .before .before .before .args .log)) (c .before .before .before .before .before .before .before .before .before .before .args .count) (c .before .before .before .before .before .before .before .before .before .before .args .u) (c .before .before .before .before .before .before .before .before .before .before .args .start) (c .before .before .before .before .before .before .before .before .before .before .args .applied) (c .before .before .before .before .before .before .before .before .before .before .args .target) (c .before .before .before .before .before .before .before .before .before .before .pre .0) (c .before .before .before .before .before .before .before .before .loop .inv .walking) (c .before .before .before .before .before .before .next-due .ensures) (c .before .before .before .before .before .before .before .loop-test .taken) (c .before .before .before .before .before .if1 .taken) (c .before .before .before .before .write-at .ensures) (search needs) in
+    laws.play-wrote (laws.Log (now (c .before .before .before .before .before .before .before .before .before .before .args .log)) (c .before .before .before .before .before .before .before .before .before .before .args .count)) (c .before .before .before .before .before .before .before .before .before .before .args .u) (c .before .before .before .before .before .before .before .before .before .before .args .start) (c .before .before .before .before .before .before .before .before .before .before .args .target) (c .before .before .before .before .before .before .before .before .loop .inv) entry (c .before .before .before .wrote .ensures) (c .state-in .ensures) (c .before .before .said-in .ensures) (c .before .counted .ensures)
 
 sub-frames-due : tie.Need-sub-frames-due Inv-loop μ-loop
 sub-frames-due c = search needs
@@ -89,7 +100,7 @@ same-length c = laws.play-long (laws.Log (now (c .before .before .before .args .
 returns : tie.Need-returns Inv-loop μ-loop
 returns c =
     let w = laws.walk-ends (laws.Log (now (c .before .before .before .args .log)) (c .before .before .before .args .count)) (c .before .before .before .args .u) (c .before .before .before .args .start) (c .before .before .before .args .target) (c .before .loop .inv .walking) (c .loop-test .left) in
-    (w .0, (w .1, laws.play-ends (laws.Log (now (c .before .before .before .args .log)) (c .before .before .before .args .count)) (c .before .before .before .args .u) (c .before .before .before .args .start) (c .before .before .before .args .target) (c .before .before .before .pre .0 .ranged) (now (c .before .before .before .args .out)) (c .before .before .before .pre .1) (c .before .loop .inv) (c .loop-test .left)))
+    (w .0, (w .1, (laws.play-counted (laws.Log (now (c .before .before .before .args .log)) (c .before .before .before .args .count)) (c .before .before .before .args .u) (c .before .before .before .args .start) (c .before .before .before .args .target) (c .before .before .before .pre .0 .ranged) (now (c .before .before .before .args .out)) (c .before .before .before .pre .1) (c .before .loop .inv) (c .loop-test .left), laws.play-ends (laws.Log (now (c .before .before .before .args .log)) (c .before .before .before .args .count)) (c .before .before .before .args .u) (c .before .before .before .args .start) (c .before .before .before .args .target) (c .before .before .before .pre .0 .ranged) (now (c .before .before .before .args .out)) (c .before .before .before .pre .1) (c .before .loop .inv) (c .loop-test .left))))
 
 pub run-to-spec : {M : Type 1} → statement M
 run-to-spec =
@@ -100,7 +111,10 @@ run-to-spec =
     loop-holds
     next-due-requires
     write-at-requires
-    written-requires
+    wrote-requires
+    said-in-requires
+    counted-requires
+    state-in-requires
     add-k
     loop-less
     loop-again
