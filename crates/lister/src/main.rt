@@ -1,4 +1,8 @@
-// Lists the log on standard input as document 01's "The listing" says: its first line, then a line for each frame.
+// Lists the log on standard input as document 01's "The listing" says: its first line, then a line for each frame. The first line tells of
+// the whole log, so the log is played twice.
+mod sorts;
+
+use crate::sorts::Sorts;
 use deck::Player;
 use libc::STDERR_FILENO;
 use libc::STDIN_FILENO;
@@ -57,16 +61,16 @@ fn lines(out: &mut [u8], before: u32, sides: &[i16; 2048], made: u32) -> usize {
     next
 }
 
-// Not where the lines go to a terminal: the two would mix.
+// Not where the lines go to a terminal: the two would mix. A log of one span is done before there is anything to tell.
 fn shown(last: u32, done: u32, all: u32) -> u32 {
-    if libc::isatty(STDOUT_FILENO) == 1 {
+    if (all <= SPAN) | (libc::isatty(STDOUT_FILENO) == 1) {
         return last;
     }
     progress::show(last, done, all)
 }
 
 // n of a log's cycles, at most a span and not beyond its end: so the play is never refused. A line has at most 31 bytes, so there is
-// room for a line of each frame.
+// room for a line of each frame. The pass before this one is the first half of what is told to be done.
 fn play(l: Listing, n: u32, log: &[u8], cycles: u32) -> Listing {
     let mut sides = [0i16; 2048];
     let mut out = [0u8; 32768];
@@ -77,18 +81,18 @@ fn play(l: Listing, n: u32, log: &[u8], cycles: u32) -> Listing {
     Listing {
         player: q,
         written: write_out(&out, at),
-        told: shown(l.told, q.cycle, cycles),
+        told: shown(l.told, cycles - cycles / 2 + q.cycle / 2, cycles),
     }
 }
 
-// Whether all frames are listed. A log of one span is done before there is anything to tell: hence the 100 at first.
-fn frames(log: &[u8], cycles: u32) -> bool {
+// Whether all frames are listed.
+fn frames(log: &[u8], cycles: u32, told: u32) -> bool {
     let t = player::open(log);
     let p = t.player;
     let mut l = Listing {
         player: p,
         written: true,
-        told: 100,
+        told: told,
     };
     let spans = cycles / SPAN;
     let mut i = 0;
@@ -103,14 +107,16 @@ fn frames(log: &[u8], cycles: u32) -> bool {
     last.written
 }
 
-// Edition, entries, cycles, frames.
-fn heading(log: &[u8], count: u32, cycles: u32) -> bool {
+// Edition, entries, cycles, frames; entries that were held off by playing, and that had no register.
+fn heading(log: &[u8], count: u32, cycles: u32, s: Sorts) -> bool {
     let mut out = [0u8; 128];
     let a = text::labelled(&mut out, 0, b"log ", little::u16_at(log, 0) as u64);
     let b = text::labelled(&mut out, a, b" entries ", count as u64);
     let c = text::labelled(&mut out, b, b" cycles ", cycles as u64);
     let d = text::labelled(&mut out, c, b" frames ", (cycles / 480) as u64);
-    let at = text::words(&mut out, d, b"\n");
+    let e = text::labelled(&mut out, d, b" held ", s.held as u64);
+    let f = text::labelled(&mut out, e, b" none ", s.none as u64);
+    let at = text::words(&mut out, f, b"\n");
     write_out(&out, at)
 }
 
@@ -142,12 +148,15 @@ fn entries(log: &[u8], checked: Checked) -> u32
     }
 }
 
+fn accepted(log: &[u8], count: u32, cycles: u32) -> bool {
+    let s = sorts::of_log(log, count, cycles);
+    heading(log, count, cycles, s) && frames(log, cycles, s.told)
+}
+
 fn list(log: &[u8]) -> bool {
     let c = log::check_log(log);
     match c {
-        Checked::Log { count: _, cycles } => {
-            heading(log, entries(log, c), cycles) && frames(log, cycles)
-        }
+        Checked::Log { count: _, cycles } => accepted(log, entries(log, c), cycles),
         Checked::Refused(why) => refused(why),
     }
 }
@@ -162,8 +171,16 @@ fn listed() -> bool {
     list(&space[..size])
 }
 
+// On a terminal the line may hold how much is done, and the message goes over it.
+fn unwritten() {
+    if libc::isatty(STDERR_FILENO) == 1 {
+        io::write_all(STDERR_FILENO, b"\r");
+    }
+    io::write_all(STDERR_FILENO, b"lister: standard output can't be written\n");
+}
+
 fn main() {
     if !listed() {
-        io::write_all(STDERR_FILENO, b"lister: standard output can't be written\n");
+        unwritten();
     }
 }

@@ -5,10 +5,10 @@ use Rattle.lister.proofs.frames.Statement.{statement}
 use Rattle.lister.proofs.frames.Tie as tie
 
 abbrev Inv-loop : tie.InvT-loop
-Inv-loop log cycles l₀ spans i₀ l i = Unit {0}
+Inv-loop log cycles told l₀ spans i₀ l i = Unit {0}
 
 abbrev μ-loop : tie.MeasureT-loop
-μ-loop log cycles l₀ spans i₀ l i = spans - i
+μ-loop log cycles told l₀ spans i₀ l i = spans - i
 
 open-requires : tie.Need-open-requires Inv-loop μ-loop
 open-requires c κs = search needs
