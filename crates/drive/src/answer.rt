@@ -2,6 +2,7 @@
 use crate::call::Call;
 use crate::output::labelled;
 use crate::seek;
+use deck::Counts;
 use deck::Played;
 use deck::Player;
 use deck::Turn;
@@ -10,13 +11,15 @@ use refusal::Refusal;
 use report::sum;
 use report::text;
 
-// What a line tells in numbers: the record's, and a play's frames, the slot of a mark that is set, the sum of what was asked for.
+// What a line tells in numbers: the record's, and a play's frames and what became of its entries, the slot of a mark that is set, the sum
+// of what was asked for.
 pub(crate) struct Numbers {
     cycle: u32,
     applied: u32,
     marks: u32,
     free: u32,
     frames: u32,
+    counts: Counts,
     slot: u32,
     sum: u32,
 }
@@ -59,9 +62,15 @@ pub(crate) fn done(
     let t = turned(p, call, log, memory, image);
     let q = t.player;
     let a = t.answer;
+    let counts = Counts {
+        taken: 0,
+        held: 0,
+        none: 0,
+    };
     Played {
         player: q,
         frames: 0,
+        counts: counts,
         answer: a,
     }
 }
@@ -82,11 +91,12 @@ fn slot_of(call: Call, free: u32) -> u32 {
     }
 }
 
-// After a call: the record, the frames that it made, the lowest slot that was free before, and what it wrote.
+// After a call: the record, the frames that it made, what became of its entries, the lowest slot that was free before, and what it wrote.
 pub(crate) fn told(
     p: Player,
     call: Call,
     frames: u32,
+    counts: Counts,
     free: u32,
     memory: &[u8],
     sides: &[i16],
@@ -97,6 +107,7 @@ pub(crate) fn told(
         marks: player::marks_set(p),
         free: player::lowest_free(p),
         frames: frames,
+        counts: counts,
         slot: slot_of(call, free),
         sum: sum_of(call, frames, memory, sides),
     }
@@ -110,9 +121,15 @@ fn record(n: Numbers, text: &mut [u8], at: usize) -> usize {
     labelled(text, c, b" free ", n.free)
 }
 
+// A play's line: behind the record, what became of the entries of its span.
 fn played(n: Numbers, text: &mut [u8]) -> usize {
-    let at = labelled(text, 0, b"played ", n.frames);
-    labelled(text, at, b" sum ", n.sum)
+    let counts = n.counts;
+    let a = labelled(text, 0, b"played ", n.frames);
+    let b = labelled(text, a, b" sum ", n.sum);
+    let c = record(n, text, b);
+    let d = labelled(text, c, b" taken ", counts.taken);
+    let e = labelled(text, d, b" held ", counts.held);
+    labelled(text, e, b" none ", counts.none)
 }
 
 // A call that says nothing but what it did.
@@ -124,10 +141,9 @@ fn moved(call: Call, text: &mut [u8]) -> usize {
     }
 }
 
-// A call that tells the record.
+// A call that tells the record last.
 fn did(call: Call, n: Numbers, text: &mut [u8]) -> usize {
     match call {
-        Call::Play(_) => played(n, text),
         Call::Set(_) => labelled(text, 0, b"set ", n.slot),
         Call::SetFree => labelled(text, 0, b"set ", n.slot),
         _ => moved(call, text),
@@ -142,6 +158,7 @@ pub(crate) fn accepted(call: Call, n: Numbers, image: &[u8], text: &mut [u8]) ->
             text::hex(text, at, image)
         }
         Call::Memory => labelled(text, 0, b"memory sum ", n.sum),
+        Call::Play(_) => played(n, text),
         Call::Unknown => text::words(text, 0, b"unknown"),
         _ => {
             let at = did(call, n, text);

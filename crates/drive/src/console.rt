@@ -51,7 +51,8 @@ fn answered(
     let r = answer::done(p, call, log, memory, sides, &mut image);
     let q = r.player;
     let a = r.answer;
-    let n = answer::told(q, call, r.frames, free, memory, sides);
+    let counts = r.counts;
+    let n = answer::told(q, call, r.frames, counts, free, memory, sides);
     tell(call, a, n, &image);
     q
 }
