@@ -276,12 +276,9 @@ module _ (ws : List Write) (u : Vsu) (start target : ℕ) where
             ∙ ap (runOn (drop (k + 1) ws) cycle (write (w .address) (w .byte) unit)) (sym (one-turn n));
       }
 
-  -- what the unit's call makes of it, and what it says
-  pub said-by : {unit : Vsu} {k cycle : ℕ} (w : Write) → Walking unit k cycle → {m : Written} → m ≡ writeOf (w .address) (w .byte) unit → m ≡ record { state = write (w .address) (w .byte) unit; said = says (w .address) unit }
-  said-by {unit} w h e = e ∙ write-gives unit (h .ranged) (w .address) (w .byte)
-
+  -- what the unit's call makes of it
   pub written-by : {unit : Vsu} {k cycle : ℕ} (w : Write) → Walking unit k cycle → {v : Vsu} → v ≡ writeOf (w .address) (w .byte) unit .state → v ≡ write (w .address) (w .byte) unit
-  written-by {unit} w h e = e ∙ ap (λ (m : Written). m .state) (said-by w h refl)
+  written-by {unit} w h e = e ∙ ap (λ (m : Written). m .state) (write-gives unit (h .ranged) (w .address) (w .byte))
 
   -- nothing is due before the cycle `due`
 
@@ -389,10 +386,8 @@ module _ (ws : List Write) (u : Vsu) (start target : ℕ) where
       }
 
   pub play-wrote : {before : List ℤ} {unit : Vsu} {k cycle : ℕ} {out : List ℤ} {at : ℕ} {counts : Counts} {w : Write} → Playing before unit k cycle out at counts → Entry k cycle w →
-      {m : Written} → m ≡ writeOf (w .address) (w .byte) unit → {v : Vsu} → v ≡ m .state → {s : Said} → s ≡ m .said → {more : Counts} → more ≡ countedBy counts s → Playing before v (k + 1) cycle out at more
-  play-wrote {w = w} h n e {v} f {s} g i =
-      let r = said-by w (h .walking) e in
-      rw (i, g, f, r) (play-writes h n)
+      {s : Said} → s ≡ says (w .address) unit → {more : Counts} → more ≡ countedBy counts s → {v : Vsu} → v ≡ writeOf (w .address) (w .byte) unit .state → Playing before v (k + 1) cycle out at more
+  play-wrote {w = w} h n e f g = rw (f, e, written-by w (h .walking) g) (play-writes h n)
 
   -- no number of entries is too large to count: they are some of the log's
   pub play-few : {before : List ℤ} {unit : Vsu} {k cycle : ℕ} {out : List ℤ} {at : ℕ} {counts : Counts} → Playing before unit k cycle out at counts → inAll counts ≤ length ws

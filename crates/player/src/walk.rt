@@ -3,7 +3,6 @@ use deck::Counts;
 use vsu::core;
 use vsu::core::Said;
 use vsu::core::Vsu;
-use vsu::core::Written;
 ghost use mathlib.Core.Path.{_≡_};
 ghost use mathlib.Core.List.{_++_};
 ghost use Prim.Native.Nat.{_*_, _-_, _<_, _≤_};
@@ -48,12 +47,6 @@ fn written(u: Vsu, address: u16, byte: u8) -> Vsu
     m.state
 }
 
-fn wrote(u: Vsu, address: u16, byte: u8) -> Written
-    ensures { λ r. ⌜ r ≡ writeOf address byte u ⌝ }
-{
-    core::write(u, address as u32, byte)
-}
-
 fn advanced(u: Vsu, n: u32) -> Vsu
     ensures { λ r. ⌜ r ≡ advanceOf n u .state ⌝ }
 {
@@ -66,18 +59,6 @@ fn ran(u: Vsu, n: u32, out: &mut [i16]) -> Vsu
 {
     let m = core::run(u, n, out);
     m.state
-}
-
-fn state_in(m: Written) -> Vsu
-    ensures { λ r. ⌜ r ≡ m .state ⌝ }
-{
-    m.state
-}
-
-fn said_in(m: Written) -> Said
-    ensures { λ r. ⌜ r ≡ m .said ⌝ }
-{
-    m.said
 }
 
 // One more of what a write said.
@@ -163,9 +144,8 @@ pub(crate) fn run_to(
         let due = next_due(log, count, k, target);
         if due <= cycle {
             let w = log::write_at(log, k);
-            let m = wrote(unit, w.address, w.byte);
-            counts = counted(counts, said_in(m));
-            unit = state_in(m);
+            counts = counted(counts, core::says(unit, w.address as u32));
+            unit = written(unit, w.address, w.byte);
             k += 1;
         } else {
             let made = core::frames_due(unit, due - cycle);

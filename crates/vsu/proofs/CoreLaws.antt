@@ -187,8 +187,8 @@ pub sort-nothing : (vs : List Voice) → said.NoRegister ≡ sortOf registers.No
 unfolding sortOf
 sort-nothing vs = refl
 
-pub sorted : (vs : List Voice) {r q : Register} {s : Said} → r ≡ q → s ≡ sortOf q vs → s ≡ sortOf r vs
-sorted vs e f = rw e f
+pub sorted : (a : ℕ) (vs : List Voice) {r q : Register} {s : Said} → r ≡ decodeOf a → r ≡ q → s ≡ sortOf q vs → s ≡ sortOf (decodeOf a) vs
+sorted a vs e k f = f ∙ ap (λ (r : Register). sortOf r vs) (sym k ∙ e)
 
 -- each of the three accepts the write
 abbrev Accepts : Said → Type 0
@@ -247,12 +247,9 @@ module _ (u : Vsu) {p : Bool} (e : p ≡ inRange u) where
   unit-refused h = order.at-fault State (rw (← e, h))
 
 module _ (u : Vsu) (a b : ℕ) where
-  pub written-on : unitAnswer u ≡ Accepted → {t : Vsu} {r : Register} {s : Said} → t ≡ write a b u → r ≡ decodeOf a → s ≡ sortOf r (u .voices) →
-      (record { state = t; said = s } ≡ writeOf a b u) × Tells (saidAnswer s) (unitAnswer u)
+  pub written-on : unitAnswer u ≡ Accepted → {t : Vsu} {s : Said} → s ≡ says a u → t ≡ write a b u → (record { state = t; said = s } ≡ writeOf a b u) × Tells (saidAnswer s) (unitAnswer u)
   unfolding writtenBy
-  written-on h {s = s} q d e =
-      let k : s ≡ says a u = e ∙ ap (λ (r : Register). sortOf r (u .voices)) d in
-      (rw (q, k, h), order.tells (ap saidAnswer k ∙ sort-answer (decodeOf a) (u .voices) ∙ sym h))
+  written-on h k q = (rw (q, k, h), order.tells (ap saidAnswer k ∙ says-accepted a u ∙ sym h))
 
   pub written-refused : {why : Refusal} → unitAnswer u ≡ Refused why → (record { state = u; said = said.Refused why } ≡ writeOf a b u) × Tells (saidAnswer (said.Refused why)) (unitAnswer u)
   unfolding writtenBy saidAnswer

@@ -12,7 +12,7 @@ ghost use Prim.Native.Nat.{_*_, _<_, _≤_};
 ghost use lib.ListN.{length, drop};
 ghost use Rattle.refusal.specs.Refusal.{Tells};
 ghost use Rattle.six.specs.Core.{sumsOf};
-ghost use Rattle.vsu.specs.Core.{powerOn, decodeOf, writeTo, write, sortOf, saidAnswer, frameOf, run, frames, framesDue, sides, allAtMost, inRange, unitAnswer, writeOf, advanceOf, runAnswer, runOf, SmallSums};
+ghost use Rattle.vsu.specs.Core.{powerOn, decodeOf, writeTo, write, says, saidAnswer, frameOf, run, frames, framesDue, sides, allAtMost, inRange, unitAnswer, writeOf, advanceOf, runAnswer, runOf, SmallSums};
 
 pub struct Vsu {
     pub voices: [Voice; 6],
@@ -169,10 +169,13 @@ fn taken_where(has: bool) -> Said
     if has { Said::Taken } else { Said::NoRegister }
 }
 
-// What a write to a register says.
-fn sort_of(voices: [Voice; 6], r: Register) -> Said
-    ensures { λ s. ⌜ s ≡ sortOf r voices ⌝ }
+// What a write to an address says, of any state. Apart from the write itself: with both in one function, and the state beside the answer, each
+// voice of the six is copied part by part, and a write costs twice as much (docs/PERFORMANCE.md).
+pub fn says(u: Vsu, address: u32) -> Said
+    ensures { λ r. ⌜ r ≡ says address u ⌝ }
 {
+    let voices = u.voices;
+    let r = decode(address);
     match r {
         Register::Wave(_) => held_while(six::core::playback_occuring(voices)),
         Register::Modulation(_) => {
@@ -231,10 +234,10 @@ pub fn write(u: Vsu, address: u32, value: u8) -> Written
     ensures { λ r. ⌜ (r ≡ writeOf address value u) × Tells (saidAnswer (r .said)) (unitAnswer u) ⌝ }
 {
     if in_range(u) {
-        let voices = u.voices;
+        let said = says(u, address);
         return Written {
             state: set_u8(u, address, value),
-            said: sort_of(voices, decode(address)),
+            said: said,
         };
     }
     Written {

@@ -23,20 +23,20 @@ next-due-requires c κs = search needs
 write-at-requires : tie.Need-write-at-requires Inv-loop μ-loop
 write-at-requires c κs = search needs
 
-wrote-requires : tie.Need-wrote-requires Inv-loop μ-loop
-wrote-requires c κs = search needs
+cast-says : tie.Need-cast-says Inv-loop μ-loop
+cast-says c = search needs
 
-said-in-requires : tie.Need-said-in-requires Inv-loop μ-loop
-said-in-requires c κs = search needs
+says-requires : tie.Need-says-requires Inv-loop μ-loop
+says-requires c κs = search needs
 
 counted-requires : tie.Need-counted-requires Inv-loop μ-loop
 counted-requires c κs = laws.log-counts (now (c .before .before .before .before .before .before .before .before .args .log)) (c .before .before .before .before .before .before .before .before .args .count) (c .before .before .before .before .before .before .before .before .args .u) (c .before .before .before .before .before .before .before .before .args .start) (c .before .before .before .before .before .before .before .before .args .applied) (c .before .before .before .before .before .before .before .before .args .target) (c .before .before .before .before .before .before .before .before .pre .0) (c .before .before .before .before .before .before .loop .inv)
 
-state-in-requires : tie.Need-state-in-requires Inv-loop μ-loop
-state-in-requires c κs = search needs
+written-requires : tie.Need-written-requires Inv-loop μ-loop
+written-requires c κs = search needs
 
 -- the entry that is due has not been applied yet
-left : (c : tie.After-state-in Inv-loop μ-loop) → (c .before .before .before .before .before .before .before .before .loop .k) < (c .before .before .before .before .before .before .before .before .before .before .args .count)
+left : (c : tie.After-written Inv-loop μ-loop) → (c .before .before .before .before .before .before .before .before .loop .k) < (c .before .before .before .before .before .before .before .before .before .before .args .count)
 left c = laws.log-left (now (c .before .before .before .before .before .before .before .before .before .before .args .log)) (c .before .before .before .before .before .before .before .before .before .before .args .count) (c .before .before .before .before .before .before .before .before .before .before .args .u) (c .before .before .before .before .before .before .before .before .before .before .args .start) (c .before .before .before .before .before .before .before .before .before .before .args .applied) (c .before .before .before .before .before .before .before .before .before .before .args .target) (c .before .before .before .before .before .before .before .before .before .before .pre .0) (c .before .before .before .before .before .before .before .before .loop .inv .walking) (c .before .before .before .before .before .before .next-due .ensures) (c .before .before .before .before .before .before .before .loop-test .taken) (c .before .before .before .before .before .if1 .taken)
 
 add-k : tie.Need-add-k Inv-loop μ-loop
@@ -48,7 +48,7 @@ loop-less c = omega (arith, left c)
 loop-again : tie.Need-loop-again Inv-loop μ-loop
 loop-again c =
     let entry = laws.log-entry (now (c .before .before .before .before .before .before .before .before .before .before .args .log)) (c .before .before .before .before .before .before .before .before .before .before .args .count) (c .before .before .before .before .before .before .before .before .before .before .args .u) (c .before .before .before .before .before .before .before .before .before .before .args .start) (c .before .before .before .before .before .before .before .before .before .before .args .applied) (c .before .before .before .before .before .before .before .before .before .before .args .target) (c .before .before .before .before .before .before .before .before .before .before .pre .0) (c .before .before .before .before .before .before .before .before .loop .inv .walking) (c .before .before .before .before .before .before .next-due .ensures) (c .before .before .before .before .before .before .before .loop-test .taken) (c .before .before .before .before .before .if1 .taken) (c .before .before .before .before .write-at .ensures) (search needs) in
-    laws.play-wrote (laws.Log (now (c .before .before .before .before .before .before .before .before .before .before .args .log)) (c .before .before .before .before .before .before .before .before .before .before .args .count)) (c .before .before .before .before .before .before .before .before .before .before .args .u) (c .before .before .before .before .before .before .before .before .before .before .args .start) (c .before .before .before .before .before .before .before .before .before .before .args .target) (c .before .before .before .before .before .before .before .before .loop .inv) entry (c .before .before .before .wrote .ensures) (c .state-in .ensures) (c .before .before .said-in .ensures) (c .before .counted .ensures)
+    laws.play-wrote (laws.Log (now (c .before .before .before .before .before .before .before .before .before .before .args .log)) (c .before .before .before .before .before .before .before .before .before .before .args .count)) (c .before .before .before .before .before .before .before .before .before .before .args .u) (c .before .before .before .before .before .before .before .before .before .before .args .start) (c .before .before .before .before .before .before .before .before .before .before .args .target) (c .before .before .before .before .before .before .before .before .loop .inv) entry (c .before .before .says .ensures) (c .before .counted .ensures) (c .written .ensures)
 
 sub-frames-due : tie.Need-sub-frames-due Inv-loop μ-loop
 sub-frames-due c = search needs
@@ -111,10 +111,10 @@ run-to-spec =
     loop-holds
     next-due-requires
     write-at-requires
-    wrote-requires
-    said-in-requires
+    cast-says
+    says-requires
     counted-requires
-    state-in-requires
+    written-requires
     add-k
     loop-less
     loop-again

@@ -3,8 +3,11 @@ use lib.ListN.{length}
 use mathlib.Core.Path.{_≡_}
 use native.Mathlib.Omega.{arith}
 use borrow.Author.Needs.{needs}
-use Rattle.vsu.proofs.core.sort_of.Statement.{statement}
-use Rattle.vsu.proofs.core.sort_of.Tie as tie
+use Rattle.vsu.proofs.core.says.Statement.{statement}
+use Rattle.vsu.proofs.core.says.Tie as tie
+
+decode-requires : tie.Need-decode-requires
+decode-requires c κs = search needs
 
 enum-told : tie.Need-enum-told
 enum-told c = search needs
@@ -40,7 +43,7 @@ taken-where-requires : tie.Need-taken-where-requires
 taken-where-requires c κs = search needs
 
 returns : tie.Need-returns
-returns c = let long : length (c .before .before .before .before .before .before .before .args .t1) ≡ 6 = search needs in laws.sorted _ (c .before .before .before .before .before .r .given .1) (laws.sort-channel _ _ _ (omega (arith, long, c .before .before .before .if1 .taken)) (c .before .has-offset .ensures) (c .taken-where .ensures))
+returns c = let long : length ((c .before .before .before .before .before .before .before .before .before .args .u) .voices) ≡ 6 = search (needs, laws.length-told) in laws.sorted _ _ (c .before .before .before .before .before .before .before .decode .ensures) (c .before .before .before .before .before .r .given .1) (laws.sort-channel _ _ _ (omega (arith, long, (c .before .before .before .if1 .taken))) (c .before .has-offset .ensures) (c .taken-where .ensures))
 
 enum-told-3 : tie.Need-enum-told-3
 enum-told-3 c = search needs
@@ -49,24 +52,25 @@ enum-told-4 : tie.Need-enum-told-4
 enum-told-4 c = search needs
 
 returns-2 : tie.Need-returns-2
-returns-2 c = laws.sorted _ (c .before .before .enum-told .given .1) (laws.sort-wave _ _ (c .before .playback-occuring .ensures) (c .held-while .ensures))
+returns-2 c = laws.sorted _ _ (c .before .before .before .before .decode .ensures) (c .before .before .enum-told .given .1) (laws.sort-wave _ _ (c .before .playback-occuring .ensures) (c .held-while .ensures))
 
 returns-3 : tie.Need-returns-3
-returns-3 c = laws.sorted _ (c .before .before .enum-told2 .given .1) (laws.sort-modulation _ _ (c .held-while2 .ensures))
+returns-3 c = laws.sorted _ _ (c .before .before .before .before .decode .ensures) (c .before .before .enum-told2 .given .1) (laws.sort-modulation _ _ (c .held-while2 .ensures))
 
 returns-4 : tie.Need-returns-4
-returns-4 c = let long : length (c .before .before .before .before .args .t1) ≡ 6 = search needs in laws.sorted _ (c .before .before .r .given .1) (laws.sort-past _ _ _ (omega (arith, long, c .if1 .left)))
+returns-4 c = let long : length ((c .before .before .before .before .before .before .args .u) .voices) ≡ 6 = search (needs, laws.length-told) in laws.sorted _ _ (c .before .before .before .before .decode .ensures) (c .before .before .r .given .1) (laws.sort-past _ _ _ (omega (arith, long, c .if1 .left)))
 
 returns-5 : tie.Need-returns-5
-returns-5 c = laws.sorted _ (c .enum-told3 .given .1) (laws.sort-stop _)
+returns-5 c = laws.sorted _ _ (c .before .before .decode .ensures) (c .enum-told3 .given .1) (laws.sort-stop _)
 
 returns-6 : tie.Need-returns-6
-returns-6 c = laws.sorted _ (c .enum-told4 .given .1) (laws.sort-nothing _)
+returns-6 c = laws.sorted _ _ (c .before .before .decode .ensures) (c .enum-told4 .given .1) (laws.sort-nothing _)
 
-pub sort-of-spec : {M : Type 1} → statement M
-sort-of-spec =
+pub says-spec : {M : Type 1} → statement M
+says-spec =
     tie.close
     (tie.spec
+    decode-requires
     enum-told
     playback-occuring-requires
     held-while-requires
