@@ -44,7 +44,11 @@ impl Console {
                 let cost = self.player.cost(call) as u64;
                 let done = self.player.call(call);
                 self.cycles += if done.is_ok() { cost } else { 0 };
-                format!("{} {}", told(done), self.record())
+                let counts = match &done {
+                    Ok(Done::Played(_, counts)) => format!(" {counts}"),
+                    _ => String::new(),
+                };
+                format!("{} {}{counts}", told(done), self.record())
             }
             Line::Image => format!("image {}", hex(&self.player.image())),
             Line::Memory => format!("memory sum {}", sum_of(&self.player.memory)),
@@ -110,7 +114,7 @@ pub fn decimal(digits: &[u8]) -> Option<u32> {
 
 fn told(done: Result<Done, Refused>) -> String {
     match done {
-        Ok(Done::Played(frames)) => {
+        Ok(Done::Played(frames, _)) => {
             let mut made = FrameSum::default();
             frames.into_iter().for_each(|frame| made.append(frame));
             format!("played {} sum {}", made.frames, made.sum)

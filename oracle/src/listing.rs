@@ -1,8 +1,9 @@
-//! What the programs over a whole log print: document 01's listing, and the same frames as a WAV.
+//! What the programs over a whole log print: document 01's listing with 02 (iii)'s counts, the same frames as a WAV, and the
+//! entries that were not taken.
 
 use crate::log::{check, writes, Refused, Write};
 use crate::run::Run;
-use crate::vsu::traits::AudioFrame;
+use crate::sorts::{Counts, Sort};
 
 /// The most bytes of a log that the lister takes, and that the other programs take.
 pub const LISTED: usize = 65_536;
@@ -20,10 +21,6 @@ pub fn refused((number, carried): Refused) -> String {
     format!("refused {number} {carried}\n")
 }
 
-fn frames(writes: Vec<Write>, cycles: u32) -> Vec<(u32, AudioFrame)> {
-    Run::new(writes).frames(0, cycles)
-}
-
 /// The listing, or the line of its refusal.
 pub fn listing(log: &[u8]) -> String {
     match check_sized(log, LISTED) {
@@ -34,9 +31,9 @@ pub fn listing(log: &[u8]) -> String {
 
 /// The listing of a log with these writes and this length.
 pub fn listing_of(writes: Vec<Write>, cycles: u32) -> String {
-    let count = writes.len();
-    let frames = frames(writes, cycles);
-    let mut text = format!("log 1 entries {count} cycles {cycles} frames {}\n", frames.len());
+    let (count, mut run) = (writes.len(), Run::new(writes));
+    let (frames, Counts { held, none, .. }) = (run.frames(0, cycles), run.counts(0, cycles));
+    let mut text = format!("log 1 entries {count} cycles {cycles} frames {} held {held} none {none}\n", frames.len());
     for (number, (made, (left, right))) in (1..).zip(frames) {
         text += &format!("{number} {made} {left} {right}\n");
     }
@@ -46,7 +43,7 @@ pub fn listing_of(writes: Vec<Write>, cycles: u32) -> String {
 /// A 16-bit stereo WAV of the frames as they are.
 pub fn wav(log: &[u8]) -> Result<Vec<u8>, Refused> {
     let (_, cycles) = check_sized(log, OPENED)?;
-    let frames = frames(writes(log), cycles);
+    let frames = Run::new(writes(log)).frames(0, cycles);
     let size = 4 * frames.len() as u32;
     let mut bytes = Vec::new();
     bytes.extend(b"RIFF");
@@ -62,4 +59,25 @@ pub fn wav(log: &[u8]) -> Result<Vec<u8>, Refused> {
         bytes.extend([left, right].map(i16::to_le_bytes).concat());
     }
     Ok(bytes)
+}
+
+/// A line for each entry that was not taken, then how many there are of each sort; or the line of the refusal.
+pub fn heard(log: &[u8]) -> String {
+    match check_sized(log, OPENED) {
+        Ok((_, cycles)) => heard_of(Run::new(writes(log)), cycles),
+        Err(why) => refused(why),
+    }
+}
+
+fn heard_of(mut run: Run, cycles: u32) -> String {
+    let mut text = String::new();
+    for (index, w, sort) in run.judged(0, cycles) {
+        let word = match sort {
+            Sort::Taken => continue,
+            Sort::Held => "held",
+            Sort::Absent => "none",
+        };
+        text += &format!("{index} {} 0x{:04x} {} {word}\n", w.due, w.address, w.byte);
+    }
+    text + &format!("{}\n", run.counts(0, cycles))
 }

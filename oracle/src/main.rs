@@ -17,11 +17,12 @@ const USAGE: &str = "usage: oracle constants
        oracle logreplay                       replays a stream of logs from standard input on the oracle's own reading
        oracle lister                          01's listing of the log on standard input
        oracle wav                             a WAV of the log on standard input
+       oracle heard                           the entries of the log on standard input that were not taken
        oracle wavlog                          the log of the stored run of crates/wav, to standard output
        oracle console FILE                    the console over the log in FILE
        oracle recorder                        the panel recorder over the script on standard input
-       oracle against list|wav|drive|record FIRST SEEDS CASES FOUND PROGRAM [WORD..] [-- LISTER [WORD..]]
-                                              holds a program against these four; what differs goes to the folder FOUND
+       oracle against list|wav|heard|drive|record FIRST SEEDS CASES FOUND PROGRAM [WORD..] [-- LISTER [WORD..]]
+                                              holds a program against these five; what differs goes to the folder FOUND
                                               with a smaller case, or nowhere where that is -; LISTER lists what a
                                               recorder makes";
 
@@ -45,6 +46,7 @@ fn main() {
             Ok(bytes) => put(&bytes),
             Err(why) => eprint!("{}", listing::refused(why)),
         },
+        ["heard"] => put(listing::heard(&read_in()).as_bytes()),
         ["wavlog"] => put(&wavlog::stored()),
         ["console", file] => console(file),
         ["recorder"] => {

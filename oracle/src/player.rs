@@ -6,6 +6,7 @@ use crate::imagecheck;
 use crate::listing::{check_sized, OPENED};
 use crate::log::{check, due_before, writes, Refused};
 use crate::run::Run;
+use crate::sorts::{Counts, Sort};
 use crate::state::in_range;
 use crate::vsu::traits::AudioFrame;
 
@@ -28,7 +29,8 @@ pub enum Call {
 /// What a call that was not refused did.
 #[derive(Debug, PartialEq)]
 pub enum Done {
-    Played(Vec<AudioFrame>),
+    /// 02 (iii): "with the number of each sort in its span"
+    Played(Vec<AudioFrame>, Counts),
     Sought,
     Set(usize),
     Cleared,
@@ -69,6 +71,12 @@ impl Player {
         image_of(&self.run.at(self.cycle).1)
     }
 
+    /// The due cycles before this one of the entries that were not taken.
+    pub fn unheard(&mut self, before: u32) -> Vec<u32> {
+        let entries = self.run.judged(0, before).into_iter();
+        entries.filter(|(_, _, sort)| *sort != Sort::Taken).map(|(_, w, _)| w.due).collect()
+    }
+
     /// "which is the lowest free (16 if none)"
     pub fn free(&self) -> usize {
         self.marks.iter().position(Option::is_none).unwrap_or(MARKS)
@@ -90,9 +98,10 @@ impl Player {
         }
         Ok(match call {
             Call::Play(n) => {
-                let frames = self.run.frames(self.cycle, self.cycle + n);
+                let (from, to) = (self.cycle, self.cycle + n);
+                let (frames, counts) = (self.run.frames(from, to), self.run.counts(from, to));
                 self.cycle += n;
-                Done::Played(frames.into_iter().map(|(_, frame)| frame).collect())
+                Done::Played(frames.into_iter().map(|(_, frame)| frame).collect(), counts)
             }
             Call::Seek(to) => {
                 self.cycle = to;

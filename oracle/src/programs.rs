@@ -1,7 +1,7 @@
 //! Holds a program against the oracle's own answers, on random logs and scripts.
 
 use crate::console::{lines, session};
-use crate::listing::{check_sized, listing, listing_of, refused, wav, LISTED, OPENED};
+use crate::listing::{check_sized, heard, listing, listing_of, refused, wav, LISTED, OPENED};
 use crate::log::{bytes_of, check, writes};
 use crate::panels;
 use crate::process::{run, Printed, Way, HUNG};
@@ -23,18 +23,20 @@ const TRIES: u32 = 1_000;
 pub enum Kind {
     List,
     Wav,
+    Heard,
     Drive,
     Record,
 }
 
 impl Kind {
-    pub const ALL: [Kind; 4] = [Kind::List, Kind::Wav, Kind::Drive, Kind::Record];
+    pub const ALL: [Kind; 5] = [Kind::List, Kind::Wav, Kind::Heard, Kind::Drive, Kind::Record];
 
     /// As the command line has it.
     pub fn word(self) -> &'static str {
         match self {
             Kind::List => "list",
             Kind::Wav => "wav",
+            Kind::Heard => "heard",
             Kind::Drive => "drive",
             Kind::Record => "record",
         }
@@ -54,12 +56,12 @@ pub struct Case {
 pub fn case(kind: Kind, r: &mut Numbers) -> Case {
     let log = match kind {
         Kind::List => whole(r, LISTED),
-        Kind::Wav => whole(r, OPENED),
+        Kind::Wav | Kind::Heard => whole(r, OPENED),
         Kind::Drive => tunes::opened(r),
         Kind::Record => Vec::new(),
     };
     let script = match kind {
-        Kind::List | Kind::Wav => Vec::new(),
+        Kind::List | Kind::Wav | Kind::Heard => Vec::new(),
         Kind::Drive => script(r, &log),
         Kind::Record => panels::script(r),
     };
@@ -110,6 +112,7 @@ pub fn wanted(case: &Case) -> Wanted {
             Ok(bytes) => wanted.printed.out = bytes,
             Err(why) => wanted.printed.err = refused(why).into(),
         },
+        Kind::Heard => wanted.printed.out = heard(&case.log).into(),
         Kind::Drive => {
             let session = session(&case.log, &case.script);
             wanted.printed.out = (session.lines.join("\n") + "\n").into();
@@ -136,7 +139,7 @@ fn wanted_of(recorded: Recorded) -> Wanted {
 pub fn different(case: &Case, expected: &Printed, got: &Printed) -> Option<String> {
     let out = match case.kind {
         Kind::Wav | Kind::Record => different_bytes(&expected.out, &got.out),
-        Kind::List | Kind::Drive => different_lines(case, &expected.out, &got.out),
+        Kind::List | Kind::Heard | Kind::Drive => different_lines(case, &expected.out, &got.out),
     };
     let err = different_lines(case, &expected.err, &got.err).map(|what| format!("standard error, {what}"));
     let both: Vec<String> = [out, err].into_iter().flatten().collect();
@@ -245,7 +248,7 @@ impl Against {
 
     fn run(&self, case: &Case, wanted: &Wanted) -> Result<(Printed, i32), String> {
         match case.kind {
-            Kind::List | Kind::Wav => run(&self.program, &case.log, case.way),
+            Kind::List | Kind::Wav | Kind::Heard => run(&self.program, &case.log, case.way),
             Kind::Drive => {
                 let file = self.room.join("log");
                 fs::write(&file, &case.log).map_err(|e| e.to_string())?;
@@ -342,6 +345,8 @@ pub struct Totals {
     pub lines: u64,
     pub bytes: u64,
     pub cycles: u64,
+    /// the entries that were taken, held, and had no register; a console's once for each play over them
+    pub sorts: [u64; 3],
     /// a recorder's adds that it took, and its logs that were listed
     pub adds: u64,
     pub listings: u64,
@@ -351,8 +356,19 @@ pub struct Totals {
 
 impl Totals {
     pub fn new(kind: Kind) -> Self {
-        let answers = BTreeMap::new();
-        Totals { kind, seeds: 0, cases: 0, refused: 0, lines: 0, bytes: 0, cycles: 0, adds: 0, listings: 0, answers }
+        Totals {
+            kind,
+            seeds: 0,
+            cases: 0,
+            refused: 0,
+            lines: 0,
+            bytes: 0,
+            cycles: 0,
+            sorts: [0; 3],
+            adds: 0,
+            listings: 0,
+            answers: BTreeMap::new(),
+        }
     }
 
     pub fn add(&mut self, wanted: &Wanted) {
@@ -365,8 +381,9 @@ impl Totals {
             Kind::Wav if wanted.accepted => {}
             Kind::Wav => self.count("log ", &err),
             Kind::Record => self.add_record(wanted, &err),
-            Kind::List | Kind::Drive => {
+            Kind::List | Kind::Heard | Kind::Drive => {
                 self.lines += out.lines().count() as u64;
+                out.lines().filter_map(sorts).for_each(|sorts| (0..3).for_each(|i| self.sorts[i] += sorts[i]));
                 if !wanted.accepted {
                     self.count("log ", &out);
                 } else if self.kind == Kind::Drive {
@@ -391,9 +408,18 @@ impl Totals {
     }
 }
 
+/// The numbers of the sorts where a line has them; the listing has those that were taken among all.
+fn sorts(line: &str) -> Option<[u64; 3]> {
+    let words: Vec<&str> = line.split(' ').collect();
+    let after = |word: &str| words.get(words.iter().position(|known| *known == word)? + 1)?.parse::<u64>().ok();
+    let (held, none) = (after("held")?, after("none")?);
+    let taken = after("taken").or_else(|| Some(after("entries")? - held - none))?;
+    Some([taken, held, none])
+}
+
 impl std::fmt::Display for Totals {
     fn fmt(&self, f: &mut std::fmt::Formatter) -> std::fmt::Result {
-        let Totals { kind, seeds, cases, refused, lines, bytes, cycles, adds, listings, answers } = self;
+        let Totals { kind, seeds, cases, refused, lines, bytes, cycles, sorts, adds, listings, answers } = self;
         let (what, yes, no) = match kind {
             Kind::Record => ("scripts", "finished", "not"),
             _ => ("logs", "accepted", "refused"),
@@ -403,8 +429,13 @@ impl std::fmt::Display for Totals {
         if *lines > 0 {
             write!(f, "{lines} lines ")?;
         }
-        if *kind == Kind::Record {
-            write!(f, "{adds} adds {listings} listings ")?;
+        match kind {
+            Kind::Record => write!(f, "{adds} adds {listings} listings ")?,
+            Kind::List | Kind::Heard | Kind::Drive => {
+                let [taken, held, none] = sorts;
+                write!(f, "{taken} taken {held} held {none} none ")?
+            }
+            Kind::Wav => {}
         }
         write!(f, "{bytes} bytes {cycles} cycles")?;
         let answers: Vec<String> = answers.iter().map(|(answer, times)| format!("{answer}: {times}")).collect();

@@ -1,9 +1,11 @@
 //! One unbroken run of a log from power-on, on the given Rust: what document 01 means by the state at a cycle and by the
-//! frames of a span. A state is asked for by its cycle alone, so nothing that a player did before can be heard in it.
+//! frames of a span, and 02 (iii) by the sort of an entry. All are asked for by their cycles alone, so nothing that a player did
+//! before can be heard in them.
 
 use crate::digest::Frames;
 use crate::fields::Fields;
 use crate::log::Write;
+use crate::sorts::{sort, Counts, Sort};
 use crate::state::{read, State};
 use crate::vsu::core::VSU;
 use crate::vsu::traits::AudioFrame;
@@ -19,6 +21,8 @@ pub struct Run {
     kept: Vec<Point>,
     /// each frame with the cycle that made it
     frames: Vec<(u32, AudioFrame)>,
+    /// of the writes that the run came to, each in the unit as it found it
+    sorts: Vec<Sort>,
     /// what `at` answered last, and for which cycle
     asked: (u32, u32, State),
 }
@@ -34,7 +38,8 @@ impl Run {
     /// The writes of an accepted log, so their due cycles never fall.
     pub fn new(writes: Vec<Write>) -> Self {
         let start = || Point { unit: VSU::new(), cycle: 0, applied: 0 };
-        Run { writes, last: start(), kept: vec![start()], frames: Vec::new(), asked: (0, 0, read(&VSU::new())) }
+        let (frames, sorts) = (Vec::new(), Vec::new());
+        Run { writes, last: start(), kept: vec![start()], frames, sorts, asked: (0, 0, read(&VSU::new())) }
     }
 
     /// How many entries have been applied at a cycle, and the state there.
@@ -43,7 +48,7 @@ impl Run {
             self.reach(cycle);
             let mut point = self.kept[(cycle / EVERY) as usize].copy();
             while point.cycle < cycle {
-                point.step(&self.writes);
+                point.step(&self.writes, |_, _| {});
             }
             self.asked = (cycle, point.applied as u32, read(&point.unit));
         }
@@ -56,9 +61,23 @@ impl Run {
         self.frames.iter().filter(|(made, _)| from < *made && *made <= to).copied().collect()
     }
 
+    /// The entries due at `from` up to but not at `to`, each with its index and its sort.
+    pub fn judged(&mut self, from: u32, to: u32) -> Vec<(usize, Write, Sort)> {
+        self.reach(to);
+        let entries = self.writes.iter().zip(&self.sorts).enumerate();
+        let due = entries.filter(|(_, (w, _))| from <= w.due && w.due < to);
+        due.map(|(index, (w, sort))| (index, *w, *sort)).collect()
+    }
+
+    /// How many of those there are of each sort.
+    pub fn counts(&mut self, from: u32, to: u32) -> Counts {
+        self.judged(from, to).into_iter().map(|(_, _, sort)| sort).collect()
+    }
+
     fn reach(&mut self, cycle: u32) {
         while self.last.cycle < cycle {
-            let made = self.last.step(&self.writes);
+            let judge = |unit: &VSU, w: Write| self.sorts.push(sort(unit, w.address.into()));
+            let made = self.last.step(&self.writes, judge);
             self.frames.extend(made.map(|frame| (self.last.cycle, frame)));
             if self.last.cycle % EVERY == 0 {
                 self.kept.push(self.last.copy());
@@ -68,9 +87,11 @@ impl Run {
 }
 
 impl Point {
-    /// One cycle. "One due at T goes in before cycle T + 1 runs": at cycle T, what is due there is written first.
-    fn step(&mut self, writes: &[Write]) -> Option<AudioFrame> {
+    /// One cycle. "One due at T goes in before cycle T + 1 runs": at cycle T, what is due there is written first. Each write is
+    /// shown before it is made, with the unit as the writes before it left it.
+    fn step(&mut self, writes: &[Write], mut show: impl FnMut(&VSU, Write)) -> Option<AudioFrame> {
         while let Some(w) = writes.get(self.applied).filter(|w| w.due == self.cycle) {
+            show(&self.unit, *w);
             self.unit.set_u8(w.address as usize, w.byte);
             self.applied += 1;
         }

@@ -11,10 +11,15 @@ use crate::tunes::FULL;
 const CYCLES: u64 = 2_500_000;
 const LONG_CYCLES: u64 = 40_000_000;
 
+/// Where plays are cut after what became of an entry, the run goes no further than this.
+const JUDGED: u32 = 1_000_000;
+
 struct Script<'a> {
     r: &'a mut Numbers,
     player: Player,
     dues: Vec<u32>,
+    /// of entries that were held or had no register
+    unheard: Vec<u32>,
     length: u32,
     /// how many slots are used, so that marks are set again, cleared and gone to
     slots: u32,
@@ -24,20 +29,21 @@ struct Script<'a> {
 
 /// The input for a console over this log.
 pub fn script(r: &mut Numbers, log: &[u8]) -> Vec<u8> {
-    let Ok((player, _, length)) = Player::open(log) else { return b"image\nplay 1\nseek 0\n".to_vec() };
+    let Ok((mut player, _, length)) = Player::open(log) else { return b"image\nplay 1\nseek 0\n".to_vec() };
     if r.one_in(60) {
         return blank(r);
     }
-    let dues = writes(log).iter().map(|w| w.due).collect();
+    let dues: Vec<u32> = writes(log).iter().map(|w| w.due).collect();
+    let unheard = player.unheard(dues.last().map_or(0, |last| last + 1).min(JUDGED));
     let slots = r.pick(&[2, 4, 16]);
     let long = (FULL..FULL + 1_000_000).contains(&length);
     let left = if long { LONG_CYCLES } else { CYCLES };
-    let mut script = Script { r, player, dues, length, slots, left, input: Vec::new() };
+    let mut script = Script { r, player, dues, unheard, length, slots, left, input: Vec::new() };
     if long {
         script.play_full();
     }
     let many = script.r.one_in(30);
-    for _ in 0..if many { 200 } else { 5 + script.r.below(35) } {
+    for _ in 0..if many { 200 } else { 5 + script.r.below(40) } {
         script.step();
     }
     script.end();
@@ -46,7 +52,7 @@ pub fn script(r: &mut Numbers, log: &[u8]) -> Vec<u8> {
 
 impl Script<'_> {
     fn step(&mut self) {
-        match self.r.below(25) {
+        match self.r.below(27) {
             0..=5 => self.play(),
             6..=9 => self.seek(),
             10 | 11 => self.slot_call("set"),
@@ -56,6 +62,7 @@ impl Script<'_> {
             19 | 20 => self.send(b"image"),
             21 => self.send(b"memory"),
             22 if self.r.one_in(4) => self.fill(),
+            23 | 24 if !self.unheard.is_empty() => self.span(),
             _ => {
                 let line = bad(self.r, &CALLS);
                 self.send(&line);
@@ -120,6 +127,30 @@ impl Script<'_> {
             to - self.player.cycle
         };
         self.send_number("play", n);
+    }
+
+    /// From around one entry that was not taken to around another, mostly again after a way back, or on from there.
+    fn span(&mut self) {
+        let mut ends = [0; 2].map(|_| self.near_unheard());
+        ends.sort();
+        let [from, to] = ends;
+        self.send_number("seek", from);
+        let slot = if self.r.one_in(2) { Some(self.r.below(self.slots)) } else { None };
+        slot.into_iter().for_each(|slot| self.send_number("set", slot));
+        for _ in 0..1 + self.r.below(3) {
+            self.send_number("play", to - from);
+            match slot {
+                _ if self.r.one_in(4) => {}
+                Some(slot) => self.send_number("goto", slot),
+                None => self.send_number("seek", from),
+            }
+        }
+        slot.into_iter().for_each(|slot| self.send_number("clear", slot));
+    }
+
+    fn near_unheard(&mut self) -> u32 {
+        let at = self.r.pick(&self.unheard);
+        (at + self.r.below(3)).saturating_sub(1).min(self.length)
     }
 
     /// The cycles for 32,767 frames, for 32,768, the most that make no more, and the least that do.

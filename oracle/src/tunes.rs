@@ -5,6 +5,7 @@ use crate::log::{bytes_of, Write, ENTRY, HEADER};
 use crate::logcases;
 use crate::player::ROOM;
 use crate::random::{setup, write, Numbers};
+use crate::scenes::{probe, scenes};
 
 /// The cycles of as many frames as a play has room for.
 pub const FULL: u32 = 480 * ROOM as u32;
@@ -70,13 +71,17 @@ fn damaged(r: &mut Numbers, log: &mut Vec<u8>) {
     }
 }
 
-/// A log that makes sound.
+/// A log that makes sound, or one that asks what becomes of its writes.
 pub fn tune(r: &mut Numbers) -> Vec<u8> {
+    if r.below(5) < 2 {
+        let (length, writes) = scenes(r);
+        return bytes_of(length, &writes);
+    }
     let length = length(r);
     if length == 0 {
         return bytes_of(0, &[]);
     }
-    let count = match r.below(20) {
+    let count = match r.below(12) {
         0 => 0,
         1 => 100 + r.below(300),
         _ => 1 + r.below(12),
@@ -86,7 +91,7 @@ pub fn tune(r: &mut Numbers) -> Vec<u8> {
 }
 
 fn length(r: &mut Numbers) -> u32 {
-    match r.below(30) {
+    match r.below(18) {
         0 => r.below(4),
         1..=4 => r.pick(&[479, 480, 481, 959, 960, 961, 1_000]),
         5 => r.pick(&[19_201, 76_805, 153_609, 307_219]) + r.below(1_000),
@@ -100,7 +105,8 @@ fn length(r: &mut Numbers) -> u32 {
     }
 }
 
-/// Groups of writes, each due at one cycle below the length: channels set up and started, or any writes.
+/// Groups of writes, each due at one cycle below the length: channels set up and started, or any writes, of which many are
+/// held or have no register.
 fn groups(r: &mut Numbers, length: u32, count: u32) -> Vec<Write> {
     let mut list = Vec::new();
     let mut due = 0;
@@ -113,11 +119,12 @@ fn groups(r: &mut Numbers, length: u32, count: u32) -> Vec<Write> {
             4 => (480 * r.below(length / 480 + 1) + r.below(3)).saturating_sub(1).min(length - 1),
             _ => r.below(length),
         };
-        let group = match r.below(6) {
+        let group = match r.below(7) {
             0..=3 if number == 0 => prelude(r),
             0 => prelude(r),
             1 | 2 => (0..1 + r.below(6)).map(|_| write(r)).collect(),
             3 => setup(r),
+            4 => (0..1 + r.below(6)).map(|_| probe(r)).collect(),
             _ => start(r),
         };
         list.extend(due_at(due, group));

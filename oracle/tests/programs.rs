@@ -14,9 +14,11 @@ use oracle::process::Printed;
 use oracle::programs::{case, different, wanted, Case, Kind, Totals};
 use oracle::random::Numbers;
 use oracle::run::Run;
+use oracle::sorts::{sort, Counts, Sort};
 use oracle::state::power_on;
 use oracle::vsu::traits::{AudioFrame, Sink};
 use oracle::VSU;
+use std::ops::Range;
 
 /// 01's own log.
 fn own() -> Vec<u8> {
@@ -26,9 +28,9 @@ fn own() -> Vec<u8> {
 
 #[test]
 fn the_listing_of_the_own_log() {
-    assert_eq!(listing(&own()), "log 1 entries 4 cycles 960 frames 2\n1 480 3648 0\n2 960 3648 0\n");
+    assert_eq!(listing(&own()), "log 1 entries 4 cycles 960 frames 2 held 0 none 0\n1 480 3648 0\n2 960 3648 0\n");
     assert_eq!(listing(&own()[..15]), "refused 3 0\n");
-    assert_eq!(listing(&bytes_of(0, &[])), "log 1 entries 0 cycles 0 frames 0\n");
+    assert_eq!(listing(&bytes_of(0, &[])), "log 1 entries 0 cycles 0 frames 0 held 0 none 0\n");
     assert_eq!(listing(&vec![0; LISTED + 1]), "refused 2 0\n");
     assert_eq!(listing(&vec![0; LISTED]), "refused 4 0\n");
 }
@@ -86,11 +88,11 @@ fn a_session_by_hand() {
     let steps = [
         ("memory", "memory sum 0"),
         ("image", &image),
-        ("play 480", "played 1 sum 113088 cycle 480 applied 4 marks 0 free 0"),
+        ("play 480", "played 1 sum 113088 cycle 480 applied 4 marks 0 free 0 taken 4 held 0 none 0"),
         ("set free", "set 0 cycle 480 applied 4 marks 1 free 1"),
         ("memory", &memory),
-        ("play 480", "played 1 sum 113088 cycle 960 applied 4 marks 1 free 1"),
-        ("play 0", "played 0 sum 0 cycle 960 applied 4 marks 1 free 1"),
+        ("play 480", "played 1 sum 113088 cycle 960 applied 4 marks 1 free 1 taken 0 held 0 none 0"),
+        ("play 0", "played 0 sum 0 cycle 960 applied 4 marks 1 free 1 taken 0 held 0 none 0"),
         ("play 1", "refused 12 0 cycle 960 applied 4 marks 1 free 1"),
         ("goto 0", "went cycle 480 applied 4 marks 1 free 1"),
         ("goto 1", "refused 15 0 cycle 480 applied 4 marks 1 free 1"),
@@ -121,9 +123,10 @@ fn sixteen_marks_and_the_frame_buffer() {
     let last = |input: &str| session(&log, input.as_bytes()).lines.pop().unwrap();
     assert_eq!(last(&"set free\n".repeat(16)), "set 15 cycle 0 applied 0 marks 16 free 16");
     assert_eq!(last(&"set free\n".repeat(17)), "refused 16 0 cycle 0 applied 0 marks 16 free 16");
-    assert_eq!(last("play 15729119"), "played 32768 sum 0 cycle 15729119 applied 0 marks 0 free 0");
+    let full = "played 32768 sum 0 cycle 15729119 applied 0 marks 0 free 0 taken 0 held 0 none 0";
+    assert_eq!(last("play 15729119"), full);
     assert_eq!(last("play 15729120"), "refused 2 0 cycle 0 applied 0 marks 0 free 0");
-    assert_eq!(last("play 479\nplay 15728640"), "played 32768 sum 0 cycle 15729119 applied 0 marks 0 free 0");
+    assert_eq!(last("play 479\nplay 15728640"), full);
     assert_eq!(last("play 479\nplay 15728641"), "refused 2 0 cycle 479 applied 0 marks 0 free 0");
     assert_eq!(last("play 4294967295"), "refused 12 0 cycle 0 applied 0 marks 0 free 0");
 }
@@ -159,6 +162,19 @@ faults! {
     RoomWithoutCounter,
     RoomFirst,
     RefusedPlayRuns,
+    /// a write is judged when all those of its cycle are made
+    JudgedAfterItsCycle,
+    /// or before the first of them
+    JudgedBeforeItsCycle,
+    SpanWithItsEnd,
+    SpanWithoutItsStart,
+    /// a play's counts begin with those of the last one
+    CountsCarriedOver,
+    /// or with what was passed over by a seek
+    SeekCounts,
+    /// an entry that is played again counts no more
+    CountedOnce,
+    RefusedPlayCounts,
 }
 
 /// A console in the player's own way: the unit is carried along from call to call, a mark is its image.
@@ -171,6 +187,10 @@ struct Carried {
     applied: usize,
     marks: [bool; MARKS],
     memory: Vec<u8>,
+    /// of the entries that the last run came to
+    sorts: Vec<Sort>,
+    /// as many entries as were ever played
+    counted: usize,
 }
 
 #[derive(Default)]
@@ -187,26 +207,41 @@ impl Carried {
     fn new(fault: Fault, log: &[u8], length: u32) -> Self {
         let memory = vec![0; MARKS * SLOT];
         let (unit, marks) = (VSU::new(), [false; MARKS]);
-        Carried { fault, writes: writes(log), length, unit, cycle: 0, applied: 0, marks, memory }
+        let (writes, sorts) = (writes(log), Vec::new());
+        Carried { fault, writes, length, unit, cycle: 0, applied: 0, marks, memory, sorts, counted: 0 }
     }
 
     fn run_to(&mut self, to: u32) -> Sum {
-        let late = u32::from(self.fault == Fault::WritesOneLate);
         let mut sum = Sum(0, 0, self.fault == Fault::LeftSideOnly);
         while self.cycle < to {
-            while self.applied < self.writes.len() && self.writes[self.applied].due + late <= self.cycle {
-                self.write_next();
-            }
+            self.write_due();
             self.unit.step(1, &mut sum);
             self.cycle += 1;
         }
         sum
     }
 
-    fn write_next(&mut self) {
+    /// Makes the writes that are due, and judges each before it.
+    fn write_due(&mut self) {
+        let late = u32::from(self.fault == Fault::WritesOneLate);
+        let due = self.writes[self.applied..].iter().take_while(|w| w.due + late <= self.cycle).count();
+        let group = self.applied..self.applied + due;
+        let before = (self.fault == Fault::JudgedBeforeItsCycle).then(|| self.judged(group.clone()));
+        let own: Vec<Sort> = group.clone().map(|_| self.write_next()).collect();
+        let after = (self.fault == Fault::JudgedAfterItsCycle).then(|| self.judged(group));
+        self.sorts.extend(before.or(after).unwrap_or(own));
+    }
+
+    fn judged(&self, entries: Range<usize>) -> Vec<Sort> {
+        self.writes[entries].iter().map(|w| sort(&self.unit, w.address.into())).collect()
+    }
+
+    fn write_next(&mut self) -> Sort {
         let w = self.writes[self.applied];
+        let sort = sort(&self.unit, w.address.into());
         self.unit.set_u8(w.address as usize, w.byte);
         self.applied += 1;
+        sort
     }
 
     fn play(&mut self, n: u32) -> String {
@@ -225,8 +260,28 @@ impl Carried {
         if self.fault == Fault::FromFirstEntry {
             self.applied = 0;
         }
+        if !matches!(self.fault, Fault::CountsCarriedOver | Fault::SeekCounts) {
+            self.sorts.clear();
+        }
+        let first = self.applied;
         let sum = self.run_to(self.cycle + n);
+        self.miscount(first, self.cycle - n);
         format!("played {} sum {}", sum.0, sum.1)
+    }
+
+    /// Spoils the sorts of a play from this entry and this cycle on.
+    fn miscount(&mut self, first: usize, from: u32) {
+        let due_at = |cycle| self.writes.iter().filter(|w| w.due == cycle).count();
+        match self.fault {
+            Fault::SpanWithItsEnd => self.sorts.extend(self.judged(self.applied..self.applied + due_at(self.cycle))),
+            Fault::SpanWithoutItsStart => drop(self.sorts.drain(..due_at(from).min(self.sorts.len()))),
+            Fault::CountedOnce => {
+                let again = self.counted.clamp(first, self.applied) - first;
+                drop(self.sorts.drain(..again));
+            }
+            _ => {}
+        }
+        self.counted = self.counted.max(self.applied);
     }
 
     fn seek(&mut self, to: u32) -> String {
@@ -310,7 +365,23 @@ impl Carried {
         let due = |w: &&Write| w.due == self.cycle && self.fault == Fault::AppliedOffByOne;
         let applied = self.applied + self.writes.iter().filter(due).count();
         let set = self.marks.iter().filter(|&&set| set).count();
-        format!("{done} cycle {} applied {applied} marks {set} free {}", self.cycle, self.free())
+        let counts = self.counts(call, done.starts_with("refused"));
+        format!("{done} cycle {} applied {applied} marks {set} free {}{counts}", self.cycle, self.free())
+    }
+
+    /// At the end of a play's line.
+    fn counts(&mut self, call: Call, refused: bool) -> String {
+        let counts: Counts = self.sorts.iter().copied().collect();
+        match call {
+            Call::Play(_) if !refused => {
+                if self.fault == Fault::SeekCounts {
+                    self.sorts.clear();
+                }
+                format!(" {counts}")
+            }
+            Call::Play(_) if self.fault == Fault::RefusedPlayCounts => format!(" {}", Counts::default()),
+            _ => String::new(),
+        }
     }
 }
 
@@ -371,4 +442,5 @@ fn what_the_cases_hold() {
         assert!(totals.answers[&format!("refused {refusal}")] > least, "refusal {refusal} is hardly seen");
     }
     assert!(totals.refused > 50 && 3 * totals.refused < 2 * totals.cases);
+    assert!(totals.sorts.iter().all(|&entries| entries > 5_000), "a sort is hardly seen");
 }
