@@ -179,12 +179,12 @@ pub fn says(u: Vsu, address: u32) -> Said
     match r {
         Register::Wave(_) => held_while(six::core::playback_occuring(voices)),
         Register::Modulation(_) => {
-            let v = voices[4];
-            held_while(v.channel.live.playing)
+            let fifth = voices[4];
+            held_while(fifth.channel.live.playing)
         }
-        Register::Channel { index, offset } => {
-            if index < 6 {
-                let v = voices[index];
+        Register::Channel { index: at, offset } => {
+            if at < 6 {
+                let v = voices[at];
                 let k = v.kind;
                 return taken_where(channel_enum::has_offset(k, offset));
             }

@@ -21,8 +21,8 @@ held-while-requires c κs = search needs
 enum-told-2 : tie.Need-enum-told-2
 enum-told-2 c = search needs
 
-array-copy-out-v : tie.Need-array-copy-out-v
-array-copy-out-v c = search needs
+array-copy-out-fifth : tie.Need-array-copy-out-fifth
+array-copy-out-fifth c = search needs
 
 held-while-requires-2 : tie.Need-held-while-requires-2
 held-while-requires-2 c κs = search needs
@@ -33,8 +33,8 @@ enum-known-r c = search needs
 mul-v : tie.Need-mul-v
 mul-v c = search needs
 
-array-copy-out-v-2 : tie.Need-array-copy-out-v-2
-array-copy-out-v-2 c = search needs
+array-copy-out-v : tie.Need-array-copy-out-v
+array-copy-out-v c = search needs
 
 has-offset-requires : tie.Need-has-offset-requires
 has-offset-requires c κs = search needs
@@ -75,11 +75,11 @@ says-spec =
     playback-occuring-requires
     held-while-requires
     enum-told-2
-    array-copy-out-v
+    array-copy-out-fifth
     held-while-requires-2
     enum-known-r
     mul-v
-    array-copy-out-v-2
+    array-copy-out-v
     has-offset-requires
     taken-where-requires
     returns
