@@ -1,17 +1,24 @@
 -- The cases of the definitions of specs/Core.antt, over plain variables.
 use Prim.Native.Nat.{ℕ, zero, suc, _+_, _*_, _<_, _≤_}
-use mathlib.Core.Path.{_≡_, sym, ap, _∙_}
-use mathlib.Core.Bool.{true, false}
+use mathlib.Core.Path.{_≡_, refl, sym, ap, _∙_}
+use mathlib.Core.Bool.{Bool, true, false, cond, _&&_, true≢false}
 use mathlib.Core.List.{List, [], _∷_, map, map-map}
 use native.Mathlib.Numerals.{add-one}
 use native.Mathlib.Omega.{arith}
+use borrow.Author.Tests.{eqb-true, ltb-true}
+use lib.Dec.{eqb, ltb}
 use lib.ListN.{getD, set, take, drop, length, length-map, drop-of-length-le}
 use lib.IntN.{ℤ}
 use lib.Seq.{drop-cons, take-all}
-use Rattle.voice.specs.ChannelEnum.{stepAutoStop, stepFrequency, stepEnvelope}
+use Rattle.common.specs.Channel.{channelWrite, writeEnvelope, writeEnvelopeMode, writeHigh, writeInterval, writeLow, writeVolumes}
+use Rattle.laws.proofs.Cases.{each}
+use Rattle.sweep.specs.SweepModulate.{restart, rewrite, sweepWrite, writeMode, writeSweep}
+use Rattle.voice.specs.ChannelEnum.{hasOffset, isIn, kindWrite, noiseWrite, offsetsOf, stepAutoStop, stepFrequency, stepEnvelope, voiceWrite, waveWrite}
+use Rattle.voice.specs.declared.channel_enum.Kind.{Kind}
+use Rattle.voice.specs.declared.channel_enum.Kind.the-variants.{Wave, Swept, Noise}
 use Rattle.voice.specs.declared.channel_enum.Voice.{Voice}
 use Rattle.six.proofs.Upto.{upTo, upTo-more}
-use Rattle.six.specs.Core.{plays, anyPlays, sweepFifth, voicesAfter, total, heardLeft, heardRight, sumsOf}
+use Rattle.six.specs.Core.{offNoise, offSwept, offWave, plays, anyPlays, sweepFifth, voicesAfter, total, heardLeft, heardRight, sumsOf}
 use Rattle.six.specs.declared.core.Sums.{Sums}
 
 -- whether any voice plays, from the front
@@ -64,3 +71,45 @@ voice-more l d e h p q r = upTo-more stepVoice l d e h (r ∙ ap stepEnvelope (q
 pub after-walk : (m : List ℤ) (vs : List Voice) {ws r : List Voice} → ws ≡ map stepVoice vs → r ≡ sweepFifth m ws → r ≡ voicesAfter m vs
 unfolding voicesAfter
 after-walk m vs p q = q ∙ ap (sweepFifth m) (p ∙ sym (one-map stepEnvelope stepFrequency stepAutoStop vs))
+
+-- Every offset that a kind has is a register: there the byte 0xFF changes the voice of that kind that power-on has. By `no-offset` of `voice`
+-- no other offset does, so the list of offsets and the writes can't drift apart.
+
+abbrev kindTrace : Kind → ℕ
+kindTrace (Wave bank position) = bank
+kindTrace (Swept bank position sweep) = bank + sweep .shift
+kindTrace (Noise shift tap output) = 0
+
+-- a number that is 0 at power-on
+abbrev trace : Voice → ℕ
+trace v =
+    cond (v .channel .live .playing) 1 0 + v .channel .left + v .channel .pitch .frequency + v .channel .envelope .level + cond (v .channel .envelope .on) 1 0 + kindTrace (v .kind)
+
+abbrev allLeave : Voice → List ℕ → Bool
+allLeave v [] = true
+allLeave v (o ∷ os) = ltb 0 (trace (voiceWrite o 0xFF v)) && allLeave v os
+
+leaves : (v : Voice) (os : List ℕ) → allLeave v os ≡ true → (o : ℕ) → isIn o os ≡ true → 0 < trace (voiceWrite o 0xFF v)
+leaves v [] a o h = absurd (true≢false (sym h))
+leaves v (p ∷ os) a o h =
+    each (ltb 0 (trace (voiceWrite p 0xFF v))) (allLeave v os ∷ []) a
+    (λ k. go (eqb o p) refl (k .0) (λ f. leaves v os (k .1 .0) o f))
+  where
+    go : (t : Bool) → eqb o p ≡ t → ltb 0 (trace (voiceWrite p 0xFF v)) ≡ true → (isIn o os ≡ true → 0 < trace (voiceWrite o 0xFF v)) → 0 < trace (voiceWrite o 0xFF v)
+    go true e f r = rw (eqb-true o p e) (ltb-true 0 (trace (voiceWrite p 0xFF v)) f)
+    go false e f r = r (rw e at h)
+
+pub offset-moves : (v : Voice) → trace v ≡ 0 → allLeave v (offsetsOf (v .kind)) ≡ true → (o : ℕ) → hasOffset o (v .kind) ≡ true → voiceWrite o 0xFF v ≡ v → ⊥
+offset-moves v z a o h e = omega (arith, leaves v (offsetsOf (v .kind)) a o h, ap trace e, z)
+
+pub wave-moves : (o : ℕ) → hasOffset o (offWave .kind) ≡ true → voiceWrite o 0xFF offWave ≡ offWave → ⊥
+unfolding offsetsOf voiceWrite kindWrite waveWrite channelWrite writeInterval writeVolumes writeLow writeHigh writeEnvelope writeEnvelopeMode
+wave-moves = offset-moves offWave refl refl
+
+pub swept-moves : (o : ℕ) → hasOffset o (offSwept .kind) ≡ true → voiceWrite o 0xFF offSwept ≡ offSwept → ⊥
+unfolding offsetsOf voiceWrite kindWrite waveWrite channelWrite writeInterval writeVolumes writeLow writeHigh writeEnvelope writeEnvelopeMode sweepWrite restart rewrite writeMode writeSweep
+swept-moves = offset-moves offSwept refl refl
+
+pub noise-moves : (o : ℕ) → hasOffset o (offNoise .kind) ≡ true → voiceWrite o 0xFF offNoise ≡ offNoise → ⊥
+unfolding offsetsOf voiceWrite kindWrite noiseWrite channelWrite writeInterval writeVolumes writeLow writeHigh writeEnvelope writeEnvelopeMode
+noise-moves = offset-moves offNoise refl refl
