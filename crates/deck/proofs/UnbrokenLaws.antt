@@ -80,6 +80,25 @@ module _ (w : Write) (ws : List Write) (c : ℕ) (u : Vsu) (e : w .due ≡ c) wh
       rw (ne-eqb (w .due) (c + suc n) (omega arith))
       (ap₂ (λ (ms : List Moment) (v : Vsu). ms ++ momentsAt ws (c + suc n) v) (moments-past n) (run-past n))
 
+-- an entry's moment is the state that the earlier ones of its cycle leave
+
+abbrev atMoment : Write → Vsu → Moment
+atMoment w u = record { entry = w; unit = u }
+
+-- w and what comes after it, from u on
+abbrev fromEntry : Write → List Write → ℕ → Vsu → List Moment
+fromEntry w ws t u = atMoment w u ∷ momentsAt ws t (write (w .address) (w .byte) u)
+
+pub moment-is : (vs : List Write) (w : Write) (ws : List Write) (t : ℕ) (u : Vsu) → w .due ≡ t → momentsAt (vs ++ w ∷ ws) t u ≡ momentsAt vs t u ++ fromEntry w ws t (applyAt vs t u)
+unfolding momentsAt applyAt
+moment-is [] w ws t u e = rw (eq-eqb (w .due) t e)
+moment-is (v ∷ vs) w ws t u e = go (eqb (v .due) t) (λ x. moment-is vs w ws t x e)
+  where
+    go : (b : Bool) → ((x : Vsu) → momentsAt (vs ++ w ∷ ws) t x ≡ momentsAt vs t x ++ fromEntry w ws t (applyAt vs t x)) →
+        cond b (fromEntry v (vs ++ w ∷ ws) t u) (momentsAt (vs ++ w ∷ ws) t u) ≡ cond b (fromEntry v vs t u) (momentsAt vs t u) ++ fromEntry w ws t (applyAt vs t (cond b (write (v .address) (v .byte) u) u))
+    go true r = ap (λ (ms : List Moment). atMoment v u ∷ ms) (r (write (v .address) (v .byte) u))
+    go false r = r u
+
 -- the run from power-on is one of these
 
 pub state-add : (ws : List Write) (c n : ℕ) → stateAt ws (c + n) ≡ runOn ws c (stateAt ws c) n

@@ -81,7 +81,8 @@ write a b u = writeTo (decodeOf a) b u
 
 -- What a write says: "one of: taken, held off by playing, no such register".
 
--- "An address outside the mapped ranges, or a channel offset that this channel hasn't got .., is no register. 0x580 is always taken."
+-- held off where `writeTo` drops it; "An address outside the mapped ranges, or a channel offset that this channel hasn't got .., is no
+-- register. 0x580 is always taken."
 unfoldable pub sortOf : Register → List Voice → Said
 sortOf (registers.Wave at) vs = cond (anyPlays vs) said.Held said.Taken
 sortOf (registers.Modulation at) vs = cond (plays (voiceAt 4 vs)) said.Held said.Taken
@@ -168,7 +169,7 @@ unfoldable pub movedBy : Answer → Vsu → Vsu → Moved
 movedBy Accepted u t = record { state = t; answer = Accepted }
 movedBy (Refused why) u t = record { state = u; answer = Refused why }
 
--- of a write the answer is what it says, where that is no sort; s is the sort
+-- a write hands back what it says in place of the answer: s, or why it is refused
 unfoldable pub writtenBy : Answer → Said → Vsu → Vsu → Written
 writtenBy Accepted s u t = record { state = t; said = s }
 writtenBy (Refused why) s u t = record { state = u; said = said.Refused why }
@@ -176,7 +177,7 @@ writtenBy (Refused why) s u t = record { state = u; said = said.Refused why }
 abbrev pub writeOf : ℕ → ℕ → Vsu → Written
 writeOf a b u = writtenBy (unitAnswer u) (says a u) u (write a b u)
 
--- the answer that a write's sort is: each of the three accepts it
+-- the answer that this is: each of the three sorts is an acceptance
 unfoldable pub saidAnswer : Said → Answer
 saidAnswer said.Taken = Accepted
 saidAnswer said.Held = Accepted
