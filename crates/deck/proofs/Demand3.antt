@@ -33,10 +33,10 @@ use Rattle.refusal.proofs.RefusalLaws.{passed, was-sound}
 use Rattle.vsu.specs.Core.{allAtMost, framesDue, inRange, sides, unitAnswer}
 use Rattle.vsu.specs.declared.core.Vsu.{Vsu}
 use Rattle.vsu.proofs.RangeLaws.{range-facts, small-at}
-use Rattle.deck.specs.Calls.{AllSpare, Call, Deck, InRun, Named, Spares, after, afterAll, answerAt, answerOf, atStart, inAll, namedAll, namedBy, names, opened, setNow, yields, yieldsCount, yieldsCounts, yieldsEntries}
+use Rattle.deck.specs.Calls.{AllSpare, Call, Deck, InRun, Named, Spares, after, afterAll, answerAt, answerOf, atStart, namedAll, namedBy, names, opened, setNow, yields, yieldsCount, yieldsCounts, yieldsEntries}
 use Rattle.deck.specs.Calls.Call.{play, seek, setMark, setFree, clear, goTo}
 use Rattle.deck.specs.Player.{appliedPlace, clearAnswer, clearOf, fresh, goToAnswer, goToOf, imagePlace, inSlot, lengthIn, marked, memorySize, misplaced, movedOn, openOf, playAnswer, playBy, playOf, restarted, seekAnswer, seekOf, setAnswer, setBy, slotApplied, slotCycle, slotImage, slotOf, slotPlace, slotSize, soughtFrom, standingAnswer, turnBy, withMarks, writesIn}
-use Rattle.deck.specs.Unbroken.{countsOf, framesIn, framesOn, momentsIn, momentsOn, stateAt}
+use Rattle.deck.specs.Unbroken.{countsOf, framesIn, framesOn, inAll, momentsIn, momentsOn, stateAt}
 use Rattle.deck.specs.declared.Player.{Player}
 use Rattle.deck.proofs.PlayerLaws.{clear-passed, go-to-passed, image-sound, play-passed, seek-passed, set-passed}
 use Rattle.deck.proofs.UnbrokenLaws.{bytes-of, due-most, due-none, frames-on-length, frames-span, in-all, moments-on-length, moments-span, state-add, state-keeps, state-run}

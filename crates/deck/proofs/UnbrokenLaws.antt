@@ -24,8 +24,7 @@ use Rattle.vsu.specs.declared.core.Frame.{Frame}
 use Rattle.vsu.specs.declared.core.Register.{Register}
 use Rattle.vsu.specs.declared.core.Register.the-variants as registers
 use Rattle.vsu.specs.declared.core.Vsu.{Vsu}
-use Rattle.deck.specs.Calls.{inAll}
-use Rattle.deck.specs.Unbroken.{Moment, applyAt, countsOf, framesIn, framesOf, framesOn, howMany, isHeld, isNone, isTaken, momentsAt, momentsIn, momentsOf, momentsOn, runOn, stateAt}
+use Rattle.deck.specs.Unbroken.{Moment, applyAt, countsOf, framesIn, framesOf, framesOn, howMany, inAll, isHeld, isNone, isTaken, momentsAt, momentsIn, momentsOf, momentsOn, runOn, stateAt}
 
 -- two spans are one
 

@@ -1,6 +1,6 @@
 -- Demand 3: after any play, seek, set, clear and go-to-mark calls from a fresh opening, refused ones among them, the player
 -- stands at the cycle the calls name, in the state that one unbroken run from power-on, cycle by cycle, has there. Each accepted
--- play yields exactly that run's frames in its span.
+-- play yields exactly that run's frames in its span, and counts that run's entries in it by what they say.
 use Prim.Native.Nat.{ℕ, _+_, _-_, _*_, _/_}
 use mathlib.Core.Path.{_≡_}
 use mathlib.Core.Bool.{cond, not}
@@ -17,7 +17,7 @@ use Rattle.refusal.specs.declared.Refusal.the-variants.{BeyondEnd, MarkNumber, 
 use Rattle.vsu.specs.Core.{sides}
 use Rattle.marks.specs.Marks.{isSet, lowestFree, withMark, withoutMark}
 use Rattle.deck.specs.Player.{SetGives, clearAnswer, clearOf, fresh, goToAnswer, goToOf, memorySize, playAnswer, playOf, seekAnswer, seekOf, setAnswer, setLowest, setNamed}
-use Rattle.deck.specs.Unbroken.{countsOf, framesIn, momentsIn, noCounts, stateAt}
+use Rattle.deck.specs.Unbroken.{countsOf, framesIn, inAll, momentsIn, noCounts, stateAt}
 use Rattle.deck.specs.declared.Counts.{Counts}
 use Rattle.deck.specs.declared.Player.{Player}
 
@@ -130,9 +130,6 @@ yieldsCounts ws before (Refused why) n = noCounts
 unfoldable pub yieldsEntries : List Write → ℕ → Answer → ℕ → ℕ
 yieldsEntries ws before Accepted n = dueBefore ws (before + n) - dueBefore ws before
 yieldsEntries ws before (Refused why) n = 0
-
-abbrev pub inAll : Counts → ℕ
-inAll c = c .taken + c .held + c .none
 
 -- What demand 3 says of a deck, where the calls have named m: it stands in the run of the log's writes at the cycle named, the next
 -- call is answered as 01 says, and a play from there yields the run's frames and counts the run's writes by what they say. A play among

@@ -79,6 +79,9 @@ howMany sort (m ∷ ms) = cond (sort (says (m .entry .address) (m .unit))) 1 0 +
 abbrev pub countsOf : List Moment → Counts
 countsOf ms = record { taken = howMany isTaken ms; held = howMany isHeld ms; none = howMany isNone ms }
 
+abbrev pub inAll : Counts → ℕ
+inAll c = c .taken + c .held + c .none
+
 -- "counts 0"
 abbrev pub noCounts : Counts
 noCounts = record { taken = 0; held = 0; none = 0 }

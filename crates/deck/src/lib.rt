@@ -31,7 +31,7 @@ pub struct Counts {
     pub none: u32,
 }
 
-// The same of a play, with the number of its frames and what the entries of its span said.
+// As a turn, of a play, with the number of its frames and what the entries of its span said.
 pub struct Played {
     pub player: Player,
     pub frames: u32,

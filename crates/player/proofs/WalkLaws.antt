@@ -6,7 +6,7 @@ use mathlib.Core.List.{List, [], _∷_, _++_, append-assoc, append-nil}
 use native.Mathlib.Nat.{add-zero, zero-add, le-trans, le-refl}
 use native.Mathlib.Numerals.{add-one}
 use native.Mathlib.Omega.{arith}
-use borrow.Author.Tests.{lt-ltb, le-ltb, eq-eqb, ne-eqb, ltb-true, ltb-false}
+use borrow.Author.Tests.{lt-ltb, le-ltb, ne-eqb, ltb-true, ltb-false}
 use lib.Dec.{ltb}
 use lib.IntN.{ℤ}
 use lib.ListN.{drop, length, length-append, length-drop, drop-of-length-le, take}
@@ -26,8 +26,7 @@ use Rattle.vsu.specs.declared.core.Said.{Said}
 use Rattle.vsu.specs.declared.core.Said.the-variants as said
 use Rattle.vsu.specs.declared.core.Vsu.{Vsu}
 use Rattle.vsu.specs.declared.core.Written.{Written}
-use Rattle.deck.specs.Calls.{inAll}
-use Rattle.deck.specs.Unbroken.{Moment, applyAt, countsOf, framesOn, howMany, isHeld, isNone, isTaken, momentsAt, momentsOn, noCounts, runOn}
+use Rattle.deck.specs.Unbroken.{Moment, applyAt, countsOf, framesOn, howMany, inAll, isHeld, isNone, isTaken, momentsAt, momentsOn, noCounts, runOn}
 use Rattle.deck.specs.declared.Counts.{Counts}
 use Rattle.deck.proofs.UnbrokenLaws.{counts-append, due-most, frames-on-add, frames-on-length, frames-past, in-all, moments-on-add, moments-on-length, moments-past, run-on-add, run-past}
 use Rattle.player.specs.Walk.{countedBy, nextOf, Walkable}

@@ -5,7 +5,6 @@ mod walk;
 use crate::walk::Heard;
 use crate::walk::Walked;
 use deck::APPLIED_PLACE;
-use deck::Counts;
 use deck::IMAGE_PLACE;
 use deck::MEMORY_SIZE;
 use deck::Played;
@@ -138,15 +137,10 @@ fn standing(p: Player, log: &[u8]) -> Checked
 fn unplayed(p: Player, answer: Answer) -> Played
     ensures { λ r. ⌜ r ≡ record { player = p; frames = 0; counts = noCounts; answer = answer } ⌝ }
 {
-    let counts = Counts {
-        taken: 0,
-        held: 0,
-        none: 0,
-    };
     Played {
         player: p,
         frames: 0,
-        counts: counts,
+        counts: walk::no_counts(),
         answer: answer,
     }
 }

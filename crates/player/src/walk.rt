@@ -9,8 +9,7 @@ ghost use Prim.Native.Nat.{_*_, _-_, _<_, _≤_};
 ghost use lib.ListN.{drop, length};
 ghost use Rattle.log.specs.Log.{edition1, writesFrom, dueBefore};
 ghost use Rattle.vsu.specs.Core.{advanceOf, framesDue, runOf, sides, writeOf};
-ghost use Rattle.deck.specs.Calls.{inAll};
-ghost use Rattle.deck.specs.Unbroken.{countsOf, framesOn, momentsOn, runOn};
+ghost use Rattle.deck.specs.Unbroken.{countsOf, framesOn, inAll, momentsOn, noCounts, runOn};
 ghost use Rattle.player.specs.Walk.{countedBy, nextOf, Walkable};
 
 // Where a walk has come to.
@@ -61,6 +60,16 @@ fn ran(u: Vsu, n: u32, out: &mut [i16]) -> Vsu
     m.state
 }
 
+pub(crate) fn no_counts() -> Counts
+    ensures { λ r. ⌜ r ≡ noCounts ⌝ }
+{
+    Counts {
+        taken: 0,
+        held: 0,
+        none: 0,
+    }
+}
+
 // One more of what a write said.
 fn counted(c: Counts, s: Said) -> Counts
     requires { ⌜ inAll c < 4294967295 ⌝ }
@@ -80,6 +89,19 @@ fn counted(c: Counts, s: Said) -> Counts
         Said::Refused(_) => {}
     }
     d
+}
+
+fn arrived(unit: Vsu, applied: u32, counts: Counts) -> Heard
+    ensures { λ r. ⌜ r ≡ record { walked = record { unit = unit; applied = applied }; counts = counts } ⌝ }
+{
+    let walked = Walked {
+        unit: unit,
+        applied: applied,
+    };
+    Heard {
+        walked: walked,
+        counts: counts,
+    }
 }
 
 // On to the target without frames.
@@ -135,11 +157,7 @@ pub(crate) fn run_to(
     let mut k = applied;
     let mut cycle = start;
     let mut at = 0;
-    let mut counts = Counts {
-        taken: 0,
-        held: 0,
-        none: 0,
-    };
+    let mut counts = no_counts();
     while cycle < target {
         let due = next_due(log, count, k, target);
         if due <= cycle {
@@ -154,12 +172,5 @@ pub(crate) fn run_to(
             cycle = due;
         }
     }
-    let walked = Walked {
-        unit: unit,
-        applied: k,
-    };
-    Heard {
-        walked: walked,
-        counts: counts,
-    }
+    arrived(unit, k, counts)
 }

@@ -1,13 +1,13 @@
 -- The cases of the definitions of specs/ChannelEnum.antt, one law each, over plain variables; then, that a voice in range stays in range.
 use Prim.Native.Nat.{ℕ, zero, suc, _+_, _*_, _/_, _%_, _^_, _<_, _≤_}
 use mathlib.Core.Path.{_≡_, refl, sym, ap, _∙_}
-use mathlib.Core.Bool.{Bool, true, false, cond, not, _&&_, Bool·beq, false≢true, and-eq-true-iff, or-true}
+use mathlib.Core.Bool.{Bool, true, false, cond, not, _&&_, Bool·beq, false≢true, true≢false, and-eq-true-iff, or-true}
 use mathlib.Core.Logic.{inl, inr}
 use mathlib.Core.List.{List, [], _∷_}
 use native.Mathlib.Numerals.{add-one}
 use native.Mathlib.Omega.{arith}
 use native.Mathlib.Nat.{add-zero}
-use borrow.Author.Tests.{eq-eqb, ne-eqb, le-leb, leb-true}
+use borrow.Author.Tests.{eq-eqb, eqb-true, ne-eqb, le-leb, leb-true}
 use lib.Dec.{eqb, leb, ltb}
 use lib.IntN.{ℤ}
 use lib.ListN.{length, getD, drop, drop-of-length-le}
@@ -15,7 +15,7 @@ use lib.Seq.{drop-cons}
 use Rattle.common.proofs.ChannelLaws.{side-le, pitch-frequency, channel-live-keeps, channel-pitch-keeps, channel-envelope-keeps, channel-stop-keeps, channel-write-keeps, level-le, left-le, right-le}
 use Rattle.sweep.proofs.SweepModulateLaws.{sweep-write-keeps, sweep-step-keeps, sweep-step-channel}
 use types.Run.{OneOf}
-use Rattle.laws.proofs.Cases.{both, each, neither, ways}
+use Rattle.laws.proofs.Cases.{both, each, ways}
 use Rattle.common.specs.Bits.{bits}
 use Rattle.common.specs.Channel.{withPitch, withTickCounter, withEnvelope, pitchStep, envelopeStep, side, channelInRange, channelWrite}
 use Rattle.voice.specs.ChannelEnum.{voiceOf, stopVoice, taps, isIn, commonOffsets, offsetsOf, hasOffset, waveWrite, noiseWrite, kindWrite, periodOf, frequencyOf, newBit, clocked, nextSample, sampled, stepFrequency, stepSweepOf, stepSweep, isTap, waveKindInRange, sweptKindInRange, noiseKindInRange, sampleOf, heard, stepAutoStop, stepEnvelope, voiceWrite, waveInRange, sweptInRange, noiseInRange}
@@ -88,9 +88,20 @@ abbrev Apart : ℕ → List ℕ → Type 0
 Apart x [] = Unit
 Apart x (y ∷ ys) = (eqb x y ≡ false) × Apart x ys
 
-apart : (x : ℕ) (ys : List ℕ) → isIn x ys ≡ false → Apart x ys
-apart x [] h = tt
-apart x (y ∷ ys) h = let k = neither (eqb x y) (isIn x ys) h in (k .0, apart x ys (k .1))
+abbrev includes : List ℕ → List ℕ → Bool
+includes l [] = true
+includes l (x ∷ xs) = isIn x l && includes l xs
+
+missed : (o x : ℕ) (l : List ℕ) → isIn o l ≡ false → isIn x l ≡ true → eqb o x ≡ false
+missed o x l n h = go (eqb o x) refl
+  where
+    go : (t : Bool) → eqb o x ≡ t → t ≡ false
+    go true e = absurd (true≢false (sym h ∙ ap (λ (y : ℕ). isIn y l) (sym (eqb-true o x e)) ∙ n))
+    go false e = refl
+
+apart : (o : ℕ) (l : List ℕ) → isIn o l ≡ false → (xs : List ℕ) → includes l xs ≡ true → Apart o xs
+apart o l n [] h = tt
+apart o l n (x ∷ xs) h = each (isIn x l) (includes l xs ∷ []) h (λ k. (missed o x l n (k .0), apart o l n xs (k .1 .0)))
 
 module _ (o b : ℕ) where
   channel-still : (c : Channel) → Apart o commonOffsets → channelWrite o b c ≡ c
@@ -103,14 +114,14 @@ module _ (o b : ℕ) where
     where
       go : (c : Channel) (k : Kind) → hasOffset o k ≡ false → voiceOf (channelWrite o b c) (kindWrite o b k) ≡ voiceOf c k
       go c (Wave bank position) h =
-          let a = apart o (0x18 ∷ commonOffsets) h in
+          let a = apart o (offsetsOf (Wave bank position)) h (0x18 ∷ commonOffsets) refl in
           rw (channel-still c (a .1), a .0, a .1 .0)
       go c (Swept bank position sweep) h =
-          let a = apart o (0x1C ∷ 0x18 ∷ commonOffsets) h in
+          let a = apart o (offsetsOf (Swept bank position sweep)) h (0x1C ∷ 0x18 ∷ commonOffsets) refl in
           let n : Apart o commonOffsets = a .1 .1 in
           rw (channel-still c n, a .0, a .1 .0, n .0, n .1 .1 .0, n .1 .1 .1 .0, n .1 .1 .1 .1 .1 .0)
       go c (Noise shift tap output) h =
-          let a : Apart o commonOffsets = apart o commonOffsets h in
+          let a : Apart o commonOffsets = apart o (offsetsOf (Noise shift tap output)) h commonOffsets refl in
           rw (channel-still c a, a .0, a .1 .1 .1 .1 .1 .0)
 
 -- step 2

@@ -1,10 +1,11 @@
 use borrow.Author.Needs.{needs}
 use Rattle.player.proofs.WalkLaws as laws
 use Prim.Native.Nat.{_+_, _-_, _*_, _<_, _≤_}
-use mathlib.Core.Path.{_≡_, refl}
+use mathlib.Core.Path.{_≡_, refl, ap, _∙_}
 use native.Mathlib.Omega.{arith}
 use denote.Ref.{now}
 use lib.ListN.{length}
+use Rattle.player.specs.declared.walk.Heard.{Heard}
 use Rattle.player.proofs.walk.run_to.Statement.{statement}
 use Rattle.player.proofs.walk.run_to.Tie as tie
 
@@ -14,8 +15,11 @@ Inv-loop start applied target log count out₀ unit₀ k₀ cycle₀ at₀ count
 abbrev μ-loop : tie.MeasureT-loop
 μ-loop start applied target log count out₀ unit₀ k₀ cycle₀ at₀ counts₀ out unit k cycle at counts = (target - cycle) + (count - k)
 
+no-counts-requires : tie.Need-no-counts-requires Inv-loop μ-loop
+no-counts-requires c κs = search needs
+
 loop-holds : tie.Need-loop-holds Inv-loop μ-loop
-loop-holds c = laws.log-plays (now (c .before .args .log)) (c .before .args .count) (c .before .args .u) (c .before .args .start) (c .before .args .applied) (c .before .args .target) (c .before .pre .0) (now (c .before .args .out))
+loop-holds c = rw (c .no-counts .ensures) (laws.log-plays (now (c .before .before .args .log)) (c .before .before .args .count) (c .before .before .args .u) (c .before .before .args .start) (c .before .before .args .applied) (c .before .before .args .target) (c .before .before .pre .0) (now (c .before .before .args .out)))
 
 next-due-requires : tie.Need-next-due-requires Inv-loop μ-loop
 next-due-requires c κs = search needs
@@ -30,25 +34,25 @@ says-requires : tie.Need-says-requires Inv-loop μ-loop
 says-requires c κs = search needs
 
 counted-requires : tie.Need-counted-requires Inv-loop μ-loop
-counted-requires c κs = laws.log-counts (now (c .before .before .before .before .before .before .before .before .args .log)) (c .before .before .before .before .before .before .before .before .args .count) (c .before .before .before .before .before .before .before .before .args .u) (c .before .before .before .before .before .before .before .before .args .start) (c .before .before .before .before .before .before .before .before .args .applied) (c .before .before .before .before .before .before .before .before .args .target) (c .before .before .before .before .before .before .before .before .pre .0) (c .before .before .before .before .before .before .loop .inv)
+counted-requires c κs = laws.log-counts (now (c .before .before .before .before .before .before .before .before .before .args .log)) (c .before .before .before .before .before .before .before .before .before .args .count) (c .before .before .before .before .before .before .before .before .before .args .u) (c .before .before .before .before .before .before .before .before .before .args .start) (c .before .before .before .before .before .before .before .before .before .args .applied) (c .before .before .before .before .before .before .before .before .before .args .target) (c .before .before .before .before .before .before .before .before .before .pre .0) (c .before .before .before .before .before .before .loop .inv)
 
 written-requires : tie.Need-written-requires Inv-loop μ-loop
 written-requires c κs = search needs
 
 -- the entry that is due has not been applied yet
-left : (c : tie.After-written Inv-loop μ-loop) → (c .before .before .before .before .before .before .before .before .loop .k) < (c .before .before .before .before .before .before .before .before .before .before .args .count)
-left c = laws.log-left (now (c .before .before .before .before .before .before .before .before .before .before .args .log)) (c .before .before .before .before .before .before .before .before .before .before .args .count) (c .before .before .before .before .before .before .before .before .before .before .args .u) (c .before .before .before .before .before .before .before .before .before .before .args .start) (c .before .before .before .before .before .before .before .before .before .before .args .applied) (c .before .before .before .before .before .before .before .before .before .before .args .target) (c .before .before .before .before .before .before .before .before .before .before .pre .0) (c .before .before .before .before .before .before .before .before .loop .inv .walking) (c .before .before .before .before .before .before .next-due .ensures) (c .before .before .before .before .before .before .before .loop-test .taken) (c .before .before .before .before .before .if1 .taken)
+left : (c : tie.After-written Inv-loop μ-loop) → (c .before .before .before .before .before .before .before .before .loop .k) < (c .before .before .before .before .before .before .before .before .before .before .before .args .count)
+left c = laws.log-left (now (c .before .before .before .before .before .before .before .before .before .before .before .args .log)) (c .before .before .before .before .before .before .before .before .before .before .before .args .count) (c .before .before .before .before .before .before .before .before .before .before .before .args .u) (c .before .before .before .before .before .before .before .before .before .before .before .args .start) (c .before .before .before .before .before .before .before .before .before .before .before .args .applied) (c .before .before .before .before .before .before .before .before .before .before .before .args .target) (c .before .before .before .before .before .before .before .before .before .before .before .pre .0) (c .before .before .before .before .before .before .before .before .loop .inv .walking) (c .before .before .before .before .before .before .next-due .ensures) (c .before .before .before .before .before .before .before .loop-test .taken) (c .before .before .before .before .before .if1 .taken)
 
 add-k : tie.Need-add-k Inv-loop μ-loop
-add-k c = omega (arith, left c, c .before .before .before .before .before .before .before .before .before .before .fits .count)
+add-k c = omega (arith, left c, c .before .before .before .before .before .before .before .before .before .before .before .fits .count)
 
 loop-less : tie.Need-loop-less Inv-loop μ-loop
 loop-less c = omega (arith, left c)
 
 loop-again : tie.Need-loop-again Inv-loop μ-loop
 loop-again c =
-    let entry = laws.log-entry (now (c .before .before .before .before .before .before .before .before .before .before .args .log)) (c .before .before .before .before .before .before .before .before .before .before .args .count) (c .before .before .before .before .before .before .before .before .before .before .args .u) (c .before .before .before .before .before .before .before .before .before .before .args .start) (c .before .before .before .before .before .before .before .before .before .before .args .applied) (c .before .before .before .before .before .before .before .before .before .before .args .target) (c .before .before .before .before .before .before .before .before .before .before .pre .0) (c .before .before .before .before .before .before .before .before .loop .inv .walking) (c .before .before .before .before .before .before .next-due .ensures) (c .before .before .before .before .before .before .before .loop-test .taken) (c .before .before .before .before .before .if1 .taken) (c .before .before .before .before .write-at .ensures) (search needs) in
-    laws.play-wrote (laws.Log (now (c .before .before .before .before .before .before .before .before .before .before .args .log)) (c .before .before .before .before .before .before .before .before .before .before .args .count)) (c .before .before .before .before .before .before .before .before .before .before .args .u) (c .before .before .before .before .before .before .before .before .before .before .args .start) (c .before .before .before .before .before .before .before .before .before .before .args .target) (c .before .before .before .before .before .before .before .before .loop .inv) entry (c .before .before .says .ensures) (c .before .counted .ensures) (c .written .ensures)
+    let entry = laws.log-entry (now (c .before .before .before .before .before .before .before .before .before .before .before .args .log)) (c .before .before .before .before .before .before .before .before .before .before .before .args .count) (c .before .before .before .before .before .before .before .before .before .before .before .args .u) (c .before .before .before .before .before .before .before .before .before .before .before .args .start) (c .before .before .before .before .before .before .before .before .before .before .before .args .applied) (c .before .before .before .before .before .before .before .before .before .before .before .args .target) (c .before .before .before .before .before .before .before .before .before .before .before .pre .0) (c .before .before .before .before .before .before .before .before .loop .inv .walking) (c .before .before .before .before .before .before .next-due .ensures) (c .before .before .before .before .before .before .before .loop-test .taken) (c .before .before .before .before .before .if1 .taken) (c .before .before .before .before .write-at .ensures) (search needs) in
+    laws.play-wrote (laws.Log (now (c .before .before .before .before .before .before .before .before .before .before .before .args .log)) (c .before .before .before .before .before .before .before .before .before .before .before .args .count)) (c .before .before .before .before .before .before .before .before .before .before .before .args .u) (c .before .before .before .before .before .before .before .before .before .before .before .args .start) (c .before .before .before .before .before .before .before .before .before .before .before .args .target) (c .before .before .before .before .before .before .before .before .loop .inv) entry (c .before .before .says .ensures) (c .before .counted .ensures) (c .written .ensures)
 
 sub-frames-due : tie.Need-sub-frames-due Inv-loop μ-loop
 sub-frames-due c = search needs
@@ -60,11 +64,11 @@ sub-ran : tie.Need-sub-ran Inv-loop μ-loop
 sub-ran c = search needs
 
 -- where cycles are run: the frames that are done lie within the buffer, which is as long as it was, and there is room for those of the run
-within : (c : tie.After-frames-due Inv-loop μ-loop) → ((c .before .before .before .before .loop .at) ≤ length (c .before .before .before .before .loop .out)) × ((length (c .before .before .before .before .loop .out) ≡ length (now (c .before .before .before .before .before .before .args .out))) × ((c .before .before .before .before .loop .at) + (c .frames-due .result) * 2 ≤ length (now (c .before .before .before .before .before .before .args .out))))
+within : (c : tie.After-frames-due Inv-loop μ-loop) → ((c .before .before .before .before .loop .at) ≤ length (c .before .before .before .before .loop .out)) × ((length (c .before .before .before .before .loop .out) ≡ length (now (c .before .before .before .before .before .before .before .args .out))) × ((c .before .before .before .before .loop .at) + (c .frames-due .result) * 2 ≤ length (now (c .before .before .before .before .before .before .before .args .out))))
 within c =
-    let a = laws.play-within (laws.Log (now (c .before .before .before .before .before .before .args .log)) (c .before .before .before .before .before .before .args .count)) (c .before .before .before .before .before .before .args .u) (c .before .before .before .before .before .before .args .start) (c .before .before .before .before .before .before .args .target) (c .before .before .before .before .before .before .pre .0 .ranged) (now (c .before .before .before .before .before .before .args .out)) (c .before .before .before .before .before .before .pre .1) (c .before .before .before .before .loop .inv) in
-    let l = laws.play-long (laws.Log (now (c .before .before .before .before .before .before .args .log)) (c .before .before .before .before .before .before .args .count)) (c .before .before .before .before .before .before .args .u) (c .before .before .before .before .before .before .args .start) (c .before .before .before .before .before .before .args .target) (c .before .before .before .before .before .before .pre .0 .ranged) (now (c .before .before .before .before .before .before .args .out)) (c .before .before .before .before .before .before .pre .1) (c .before .before .before .before .loop .inv) in
-    let m = laws.play-more (laws.Log (now (c .before .before .before .before .before .before .args .log)) (c .before .before .before .before .before .before .args .count)) (c .before .before .before .before .before .before .args .u) (c .before .before .before .before .before .before .args .start) (c .before .before .before .before .before .before .args .target) (c .before .before .before .before .before .before .pre .0 .ranged) (now (c .before .before .before .before .before .before .args .out)) (c .before .before .before .before .before .before .pre .1) (c .before .before .before .before .loop .inv) (laws.log-quiet (now (c .before .before .before .before .before .before .args .log)) (c .before .before .before .before .before .before .args .count) (c .before .before .before .before .before .before .args .u) (c .before .before .before .before .before .before .args .start) (c .before .before .before .before .before .before .args .applied) (c .before .before .before .before .before .before .args .target) (c .before .before .before .before .before .before .pre .0) (c .before .before .before .before .loop .inv .walking) (c .before .before .next-due .ensures) (c .before .if1 .left)) in
+    let a = laws.play-within (laws.Log (now (c .before .before .before .before .before .before .before .args .log)) (c .before .before .before .before .before .before .before .args .count)) (c .before .before .before .before .before .before .before .args .u) (c .before .before .before .before .before .before .before .args .start) (c .before .before .before .before .before .before .before .args .target) (c .before .before .before .before .before .before .before .pre .0 .ranged) (now (c .before .before .before .before .before .before .before .args .out)) (c .before .before .before .before .before .before .before .pre .1) (c .before .before .before .before .loop .inv) in
+    let l = laws.play-long (laws.Log (now (c .before .before .before .before .before .before .before .args .log)) (c .before .before .before .before .before .before .before .args .count)) (c .before .before .before .before .before .before .before .args .u) (c .before .before .before .before .before .before .before .args .start) (c .before .before .before .before .before .before .before .args .target) (c .before .before .before .before .before .before .before .pre .0 .ranged) (now (c .before .before .before .before .before .before .before .args .out)) (c .before .before .before .before .before .before .before .pre .1) (c .before .before .before .before .loop .inv) in
+    let m = laws.play-more (laws.Log (now (c .before .before .before .before .before .before .before .args .log)) (c .before .before .before .before .before .before .before .args .count)) (c .before .before .before .before .before .before .before .args .u) (c .before .before .before .before .before .before .before .args .start) (c .before .before .before .before .before .before .before .args .target) (c .before .before .before .before .before .before .before .pre .0 .ranged) (now (c .before .before .before .before .before .before .before .args .out)) (c .before .before .before .before .before .before .before .pre .1) (c .before .before .before .before .loop .inv) (laws.log-quiet (now (c .before .before .before .before .before .before .before .args .log)) (c .before .before .before .before .before .before .before .args .count) (c .before .before .before .before .before .before .before .args .u) (c .before .before .before .before .before .before .before .args .start) (c .before .before .before .before .before .before .before .args .applied) (c .before .before .before .before .before .before .before .args .target) (c .before .before .before .before .before .before .before .pre .0) (c .before .before .before .before .loop .inv .walking) (c .before .before .next-due .ensures) (c .before .if1 .left)) in
     (omega arith, (l, rw (c .frames-due .ensures) m))
 
 mul-ran : tie.Need-mul-ran Inv-loop μ-loop
@@ -92,15 +96,18 @@ loop-less-2 : tie.Need-loop-less-2 Inv-loop μ-loop
 loop-less-2 c = omega arith
 
 loop-again-2 : tie.Need-loop-again-2 Inv-loop μ-loop
-loop-again-2 c = laws.play-runs (laws.Log (now (c .before .before .before .before .before .before .before .before .before .args .log)) (c .before .before .before .before .before .before .before .before .before .args .count)) (c .before .before .before .before .before .before .before .before .before .args .u) (c .before .before .before .before .before .before .before .before .before .args .start) (c .before .before .before .before .before .before .before .before .before .args .target) (c .before .before .before .before .before .before .before .before .before .pre .0 .ranged) (now (c .before .before .before .before .before .before .before .before .before .args .out)) (c .before .before .before .before .before .before .before .before .before .pre .1) (c .before .before .before .before .before .before .before .loop .inv) refl (laws.log-quiet (now (c .before .before .before .before .before .before .before .before .before .args .log)) (c .before .before .before .before .before .before .before .before .before .args .count) (c .before .before .before .before .before .before .before .before .before .args .u) (c .before .before .before .before .before .before .before .before .before .args .start) (c .before .before .before .before .before .before .before .before .before .args .applied) (c .before .before .before .before .before .before .before .before .before .args .target) (c .before .before .before .before .before .before .before .before .before .pre .0) (c .before .before .before .before .before .before .before .loop .inv .walking) (c .before .before .before .before .before .next-due .ensures) (c .before .before .before .before .if1 .left)) (c .before .ran .ensures .0) (c .before .ran .ensures .1) (c .before .before .before .frames-due .ensures)
+loop-again-2 c = laws.play-runs (laws.Log (now (c .before .before .before .before .before .before .before .before .before .before .args .log)) (c .before .before .before .before .before .before .before .before .before .before .args .count)) (c .before .before .before .before .before .before .before .before .before .before .args .u) (c .before .before .before .before .before .before .before .before .before .before .args .start) (c .before .before .before .before .before .before .before .before .before .before .args .target) (c .before .before .before .before .before .before .before .before .before .before .pre .0 .ranged) (now (c .before .before .before .before .before .before .before .before .before .before .args .out)) (c .before .before .before .before .before .before .before .before .before .before .pre .1) (c .before .before .before .before .before .before .before .loop .inv) refl (laws.log-quiet (now (c .before .before .before .before .before .before .before .before .before .before .args .log)) (c .before .before .before .before .before .before .before .before .before .before .args .count) (c .before .before .before .before .before .before .before .before .before .before .args .u) (c .before .before .before .before .before .before .before .before .before .before .args .start) (c .before .before .before .before .before .before .before .before .before .before .args .applied) (c .before .before .before .before .before .before .before .before .before .before .args .target) (c .before .before .before .before .before .before .before .before .before .before .pre .0) (c .before .before .before .before .before .before .before .loop .inv .walking) (c .before .before .before .before .before .next-due .ensures) (c .before .before .before .before .if1 .left)) (c .before .ran .ensures .0) (c .before .ran .ensures .1) (c .before .before .before .frames-due .ensures)
+
+arrived-requires : tie.Need-arrived-requires Inv-loop μ-loop
+arrived-requires c κs = search needs
 
 same-length : tie.Need-same-length Inv-loop μ-loop
-same-length c = laws.play-long (laws.Log (now (c .before .before .before .args .log)) (c .before .before .before .args .count)) (c .before .before .before .args .u) (c .before .before .before .args .start) (c .before .before .before .args .target) (c .before .before .before .pre .0 .ranged) (now (c .before .before .before .args .out)) (c .before .before .before .pre .1) (c .before .loop .inv)
+same-length c = laws.play-long (laws.Log (now (c .before .before .before .before .before .args .log)) (c .before .before .before .before .before .args .count)) (c .before .before .before .before .before .args .u) (c .before .before .before .before .before .args .start) (c .before .before .before .before .before .args .target) (c .before .before .before .before .before .pre .0 .ranged) (now (c .before .before .before .before .before .args .out)) (c .before .before .before .before .before .pre .1) (c .before .before .loop .inv)
 
 returns : tie.Need-returns Inv-loop μ-loop
 returns c =
-    let w = laws.walk-ends (laws.Log (now (c .before .before .before .args .log)) (c .before .before .before .args .count)) (c .before .before .before .args .u) (c .before .before .before .args .start) (c .before .before .before .args .target) (c .before .loop .inv .walking) (c .loop-test .left) in
-    (w .0, (w .1, (laws.play-counted (laws.Log (now (c .before .before .before .args .log)) (c .before .before .before .args .count)) (c .before .before .before .args .u) (c .before .before .before .args .start) (c .before .before .before .args .target) (c .before .before .before .pre .0 .ranged) (now (c .before .before .before .args .out)) (c .before .before .before .pre .1) (c .before .loop .inv) (c .loop-test .left), laws.play-ends (laws.Log (now (c .before .before .before .args .log)) (c .before .before .before .args .count)) (c .before .before .before .args .u) (c .before .before .before .args .start) (c .before .before .before .args .target) (c .before .before .before .pre .0 .ranged) (now (c .before .before .before .args .out)) (c .before .before .before .pre .1) (c .before .loop .inv) (c .loop-test .left))))
+    let w = laws.walk-ends (laws.Log (now (c .before .before .before .before .before .args .log)) (c .before .before .before .before .before .args .count)) (c .before .before .before .before .before .args .u) (c .before .before .before .before .before .args .start) (c .before .before .before .before .before .args .target) (c .before .before .loop .inv .walking) (c .before .loop-test .left) in
+    (ap (λ (h : Heard). h .walked .unit) (c .arrived .ensures) ∙ w .0, (ap (λ (h : Heard). h .walked .applied) (c .arrived .ensures) ∙ w .1, (ap (λ (h : Heard). h .counts) (c .arrived .ensures) ∙ laws.play-counted (laws.Log (now (c .before .before .before .before .before .args .log)) (c .before .before .before .before .before .args .count)) (c .before .before .before .before .before .args .u) (c .before .before .before .before .before .args .start) (c .before .before .before .before .before .args .target) (c .before .before .before .before .before .pre .0 .ranged) (now (c .before .before .before .before .before .args .out)) (c .before .before .before .before .before .pre .1) (c .before .before .loop .inv) (c .before .loop-test .left), laws.play-ends (laws.Log (now (c .before .before .before .before .before .args .log)) (c .before .before .before .before .before .args .count)) (c .before .before .before .before .before .args .u) (c .before .before .before .before .before .args .start) (c .before .before .before .before .before .args .target) (c .before .before .before .before .before .pre .0 .ranged) (now (c .before .before .before .before .before .args .out)) (c .before .before .before .before .before .pre .1) (c .before .before .loop .inv) (c .before .loop-test .left))))
 
 pub run-to-spec : {M : Type 1} → statement M
 run-to-spec =
@@ -108,6 +115,7 @@ run-to-spec =
     (tie.spec
     Inv-loop
     μ-loop
+    no-counts-requires
     loop-holds
     next-due-requires
     write-at-requires
@@ -130,5 +138,6 @@ run-to-spec =
     add-at
     loop-less-2
     loop-again-2
+    arrived-requires
     same-length
     returns)

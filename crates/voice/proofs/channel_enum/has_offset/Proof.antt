@@ -1,5 +1,4 @@
 use borrow.Author.Needs.{needs}
-use mathlib.Core.Path.{ap}
 use Rattle.voice.specs.ChannelEnum.{offsetsOf}
 use Rattle.voice.proofs.channel_enum.has_offset.Statement.{statement}
 use Rattle.voice.proofs.channel_enum.has_offset.Tie as tie
