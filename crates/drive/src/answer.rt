@@ -62,17 +62,7 @@ pub(crate) fn done(
     let t = turned(p, call, log, memory, image);
     let q = t.player;
     let a = t.answer;
-    let counts = Counts {
-        taken: 0,
-        held: 0,
-        none: 0,
-    };
-    Played {
-        player: q,
-        frames: 0,
-        counts: counts,
-        answer: a,
-    }
+    player::unplayed(q, a)
 }
 
 fn sum_of(call: Call, frames: u32, memory: &[u8], sides: &[i16]) -> u32 {

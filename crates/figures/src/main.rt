@@ -233,7 +233,8 @@ fn run_beyond(out: &mut [i16]) {
 
 fn write_beyond() {
     let m = core::write(beyond(), 0x580, 1);
-    let a = m.answer;
+    let said = m.said;
+    let a = core::answer_in(said);
     let s = m.state;
     told(b"write to output 480: ", a, s.output);
     text(b"\n");

@@ -132,9 +132,9 @@ fn standing(p: Player, log: &[u8]) -> Checked
     )
 }
 
-// A play that was refused, and one that was not.
+// A record and an answer as a play hands them back that has played nothing; and a play that has.
 
-fn unplayed(p: Player, answer: Answer) -> Played
+pub fn unplayed(p: Player, answer: Answer) -> Played
     ensures { λ r. ⌜ r ≡ record { player = p; frames = 0; counts = noCounts; answer = answer } ⌝ }
 {
     Played {

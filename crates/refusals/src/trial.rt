@@ -16,6 +16,7 @@ use player::play;
 use player::seek;
 use player::set_free;
 use player::set_mark;
+use player::unplayed;
 use refusal::Answer;
 use vsu::core;
 
@@ -143,11 +144,7 @@ fn made(c: Call, p: Player, g: Given, log: &[u8], memory: &mut [u8], out: &mut [
     let t = turned(c, p, g, log, memory);
     let q = t.player;
     let a = t.answer;
-    Played {
-        player: q,
-        frames: 0,
-        answer: a,
-    }
+    unplayed(q, a)
 }
 
 fn same_bytes(x: &[u8], y: &[u8]) -> bool {
@@ -195,13 +192,14 @@ fn numbers(a: Answer) -> Seen {
 fn summed(r: Played, same: bool) -> Seen {
     let p = r.player;
     let a = r.answer;
+    let c = r.counts;
     let mut s = numbers(a);
     s.frames = r.frames;
     s.cycle = p.cycle;
     s.applied = p.applied;
     s.marks = marks_set(p);
     s.free = lowest_free(p);
-    s.kept = same & (r.frames == 0);
+    s.kept = same & (r.frames == 0) & ((c.taken == 0) & (c.held == 0) & (c.none == 0));
     s
 }
 

@@ -59,7 +59,8 @@ fn taken(letter: u8) -> Words {
 fn write(u: Vsu, t: Tally, w: Words) -> Replay {
     let m = core::write(u, w.a, w.byte);
     let v = m.state;
-    let a = m.answer;
+    let said = m.said;
+    let a = core::answer_in(said);
     Replay {
         unit: v,
         tally: tally::accepted(t, b"W refused", tally::refused(a)),

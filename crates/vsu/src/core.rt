@@ -229,6 +229,18 @@ pub fn in_range(u: Vsu) -> bool
     six::core::in_range(voices) & (u.output <= 479) & samples_in_range(&waves)
 }
 
+// The answer that a write's is: each of the three sorts is an acceptance.
+pub fn answer_in(said: Said) -> Answer
+    ensures { λ r. ⌜ r ≡ saidAnswer said ⌝ }
+{
+    match said {
+        Said::Taken => Answer::Accepted,
+        Said::Held => Answer::Accepted,
+        Said::NoRegister => Answer::Accepted,
+        Said::Refused(why) => Answer::Refused(why),
+    }
+}
+
 // A register write.
 pub fn write(u: Vsu, address: u32, value: u8) -> Written
     ensures { λ r. ⌜ (r ≡ writeOf address value u) × Tells (saidAnswer (r .said)) (unitAnswer u) ⌝ }
