@@ -75,7 +75,8 @@ pub fn new() -> Vsu
     }
 }
 
-fn decode(address: u32) -> Register
+// The register at an address.
+pub fn decode(address: u32) -> Register
     ensures { λ r. ⌜ r ≡ decodeOf address ⌝ }
 {
     match address {
