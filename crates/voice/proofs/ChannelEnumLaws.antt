@@ -84,7 +84,7 @@ is-none (k ∷ j ∷ ks) x n = rw (ne-eqb x k (λ e. n (inl e))) (is-none (j ∷
 
 -- a write at an offset that the kind hasn't got leaves the voice as it is
 
-abbrev Apart : ℕ → List ℕ → Type 0
+abbrev pub Apart : ℕ → List ℕ → Type 0
 Apart x [] = Unit
 Apart x (y ∷ ys) = (eqb x y ≡ false) × Apart x ys
 
