@@ -1,3 +1,4 @@
 pub mod ArrangerLaws
 pub mod VoiceLaws
 pub mod WriteLaws
+pub mod ExchangeLaws

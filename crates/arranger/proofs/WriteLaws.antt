@@ -165,6 +165,13 @@ plays-set [] k v e = refl
 plays-set (w ∷ vs) zero v e = rw e
 plays-set (w ∷ vs) (suc k) v e = ap (λ (t : Bool). plays w || t) (plays-set vs k v e)
 
+pub plays-at : (vs : List Voice) (k j : ℕ) (v : Voice) → plays v ≡ plays (voiceAt k vs) → plays (voiceAt j (set vs k v)) ≡ plays (voiceAt j vs)
+plays-at [] k j v e = refl
+plays-at (w ∷ vs) zero zero v e = e
+plays-at (w ∷ vs) zero (suc j) v e = refl
+plays-at (w ∷ vs) (suc k) zero v e = refl
+plays-at (w ∷ vs) (suc k) (suc j) v e = plays-at vs k j v e
+
 pub plays-there : (vs : List Voice) (k : ℕ) (v : Voice) → k < length vs → plays v ≡ true → anyPlays (set vs k v) ≡ true
 unfolding anyPlays
 plays-there [] k v h e = absurd (omega (arith, h))

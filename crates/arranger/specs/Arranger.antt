@@ -1,5 +1,5 @@
 -- "The arranger program reorders writes due at one cycle, and its author wants to know when that is harmless."
-use Prim.Native.Nat.{ℕ, _+_, _-_, _*_, _<_}
+use Prim.Native.Nat.{ℕ, _+_, _-_, _*_, _%_, _<_}
 use mathlib.Core.Path.{_≡_}
 use mathlib.Core.Bool.{Bool, true, false, cond, not, _&&_, _||_}
 use lib.Dec.{eqb, ltb}
@@ -40,15 +40,15 @@ kept k offset b =
 
 -- May two writes be exchanged? A table, by the register of the one, then that of the other.
 
--- a sample is "dropped while any channel plays": not beside what may start or stop one
+-- "byte mod 64. Dropped while any channel plays.": not beside what may start or stop one
 unfoldable pub besideWave : ℕ → ℕ → Register → ℕ → Bool
-besideWave at b (Wave to) d = not (eqb at to) || eqb (bits 0 6 b) (bits 0 6 d)
+besideWave at b (Wave to) d = not (eqb at to) || eqb (b % 64) (d % 64)
 besideWave at b (Modulation to) d = true
 besideWave at b (Channel k offset) d = not (eqb offset 0x00)
 besideWave at b Stop d = not (bit 0 d)
 besideWave at b Nothing d = true
 
--- a modulation entry is "dropped while channel 5 (index 4) plays"
+-- "Dropped while channel 5 (index 4) plays."
 unfoldable pub besideModulation : ℕ → ℕ → Register → ℕ → Bool
 besideModulation at b (Wave to) d = true
 besideModulation at b (Modulation to) d = not (eqb at to) || eqb b d

@@ -51,7 +51,7 @@ fn beside_wave(at: usize, byte: u8, other: Register, value: u8) -> bool
     ensures { λ r. ⌜ r ≡ besideWave at byte other value ⌝ }
 {
     match other {
-        Register::Wave(to) => !(at == to) | (bits::field(byte, 0, 6) == bits::field(value, 0, 6)),
+        Register::Wave(to) => !(at == to) | (byte % 64 == value % 64),
         Register::Modulation(_) => true,
         Register::Channel { index: _, offset } => !(offset == 0x00),
         Register::Stop => !bits::flag(value, 0),

@@ -6,12 +6,6 @@ use Rattle.arranger.proofs.beside_wave.Tie as tie
 enum-known-other : tie.Need-enum-known-other
 enum-known-other c = search needs
 
-field-requires : tie.Need-field-requires
-field-requires c κs = search needs
-
-field-requires-2 : tie.Need-field-requires-2
-field-requires-2 c κs = search needs
-
 enum-told : tie.Need-enum-told
 enum-told c = search needs
 
@@ -29,7 +23,7 @@ enum-told-3 c = search needs
 
 returns : tie.Need-returns
 unfolding besideWave
-returns c = rw (c .before .before .before .other .given .1, c .before .field .ensures, c .field2 .ensures)
+returns c = rw (c .before .other .given .1)
 
 returns-2 : tie.Need-returns-2
 unfolding besideWave
@@ -50,4 +44,4 @@ returns-5 c = rw (c .enum-told3 .given .1)
 pub beside-wave-spec : {M : Type 1} → statement M
 beside-wave-spec =
     tie.close
-    (tie.spec enum-known-other field-requires field-requires-2 enum-told enum-known-other-2 enum-told-2 flag-requires enum-told-3 returns returns-2 returns-3 returns-4 returns-5)
+    (tie.spec enum-known-other enum-told enum-known-other-2 enum-told-2 flag-requires enum-told-3 returns returns-2 returns-3 returns-4 returns-5)
