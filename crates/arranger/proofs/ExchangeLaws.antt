@@ -184,7 +184,7 @@ module _ {b d : ℕ} (h : b < 256) (g : d < 256) (u : Vsu) (i : OfKinds u) where
 
 -- What an address decodes to fits the unit.
 
-at-most : (low high a : ℕ) → between low high a ≡ true → a ≤ high
+pub at-most : (low high a : ℕ) → between low high a ≡ true → a ≤ high
 at-most low high a e = each (leb low a) (leb a high ∷ []) e (λ k. leb-true a high (k .1 .0))
 
 pub decode-fits : (a : ℕ) → Fits (decodeOf a)

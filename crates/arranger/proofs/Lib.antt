@@ -2,3 +2,4 @@ pub mod ArrangerLaws
 pub mod VoiceLaws
 pub mod WriteLaws
 pub mod ExchangeLaws
+pub mod WorkedLaws

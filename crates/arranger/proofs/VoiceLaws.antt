@@ -322,7 +322,7 @@ plays-written b v = refl
 -- What a register ignores: the bits that it keeps do what the byte does.
 
 -- a law of bytes is a table of 256
-on-bytes : (f g : ℕ → ℕ) → below (λ b. eqb (f b) (g b)) 256 ≡ true → {b : ℕ} → b < 256 → f b ≡ g b
+pub on-bytes : (f g : ℕ → ℕ) → below (λ b. eqb (f b) (g b)) 256 ≡ true → {b : ℕ} → b < 256 → f b ≡ g b
 on-bytes f g t {b} h = eqb-true (f b) (g b) (table.at (λ b. eqb (f b) (g b)) 256 b t h)
 
 abbrev keptInterval : ℕ → ℕ
@@ -440,7 +440,7 @@ readKind o (Swept bank position s) =
     (cond (eqb o 0x18) bank (cond (eqb o 0x1C) (number (s .slow) * 128 + s .interval * 16 + number (s .up) * 8 + s .shift) 0))
 readKind o (Noise shift tap output) = cond (eqb o 0x14) (tapNumber tap taps * 16) 0
 
-abbrev read : ℕ → Voice → ℕ
+abbrev pub read : ℕ → Voice → ℕ
 read o v = readChannel o (v .channel) + readKind o (v .kind)
 
 -- of the voices of power-on, at every offset and byte
