@@ -3,3 +3,4 @@ pub mod VoiceLaws
 pub mod WriteLaws
 pub mod ExchangeLaws
 pub mod WorkedLaws
+pub mod LogLaws

@@ -24,7 +24,7 @@ use Rattle.vsu.specs.declared.core.Register.the-variants.{Wave, Modulation, Cha
 use Rattle.vsu.specs.declared.core.Vsu.{Vsu}
 use Rattle.arranger.proofs.VoiceLaws.{later-stays, on-bytes, plays-written, read, reads-back}
 use Rattle.arranger.proofs.WriteLaws.{EitherOrder, entries-agree, plays-set, plays-there, stopped-at, stopped-plays, voice-twice, voices-agree, voicesBy, waves-agree}
-use Rattle.arranger.proofs.ExchangeLaws.{Fits, at-most, decode-fits}
+use Rattle.arranger.proofs.ExchangeLaws.{Fits, at-most, decode-fits, in-range-kinds, may-exchange}
 use Rattle.arranger.specs.Arranger.{Exchanged, beside, besideChannel, besideModulation, besideStop, besideWave, dropped, kept, leadOf, leadTo, led, mayExchange, worked}
 use Rattle.arranger.specs.declared.Lead.{Lead}
 use Rattle.arranger.specs.declared.Lead.the-variants.{PowerOn, Filled, Playing}
@@ -400,3 +400,33 @@ module _ (a b c d : ℕ) where
 pub may-not : (a b c d : ℕ) → b < 256 → d < 256 → mayExchange a b c d ≡ false → (inRange (worked a b c d) ≡ true) × (Exchanged a b c d (worked a b c d) → ⊥)
 may-not a b c d h g n =
     (worked-in-range a b c d, differs a b c d h g (decodeOf a) (decodeOf c) refl refl (decode-fits a) (decode-fits c) n)
+
+-- It doesn't matter which of the two is named first.
+pub either-first : (a b c d : ℕ) → b < 256 → d < 256 → mayExchange a b c d ≡ mayExchange c d a b
+either-first a b c d h g = go (mayExchange a b c d) (mayExchange c d a b) refl refl
+  where
+    go : (s t : Bool) → mayExchange a b c d ≡ s → mayExchange c d a b ≡ t → s ≡ t
+    go true true e f = refl
+    go true false e f = let k = may-not c d a b g h f in absurd (k .1 (sym (may-exchange a b c d h g e _ (in-range-kinds _ (k .0)))))
+    go false true e f = let k = may-not a b c d h g e in absurd (k .1 (sym (may-exchange c d a b g h f _ (in-range-kinds _ (k .0)))))
+    go false false e f = refl
+
+-- Document 02's two worked states, both power-on itself, by computation.
+
+-- "a wave write and a write at offset 0x00 may not be exchanged": the sample goes in, or is dropped since channel 0 plays
+pub sample-then-start : getD (write 0x400 0x80 (write 0x000 1 powerOn) .waves) 0 0 ≡ 1
+unfolding decodeOf writeTo anyPlays powerOn
+sample-then-start = refl
+
+pub start-then-sample : getD (write 0x000 1 (write 0x400 0x80 powerOn) .waves) 0 0 ≡ 0
+unfolding decodeOf writeTo anyPlays powerOn voiceWrite channelWrite writeInterval
+start-then-sample = refl
+
+-- "nor the stop register and such a write": channel 0 is stopped, or plays
+pub start-then-stop : plays (voiceAt 0 (write 0x580 1 (write 0x400 0x80 powerOn) .voices)) ≡ false
+unfolding decodeOf writeTo powerOn
+start-then-stop = refl
+
+pub stop-then-start : plays (voiceAt 0 (write 0x400 0x80 (write 0x580 1 powerOn) .voices)) ≡ true
+unfolding decodeOf writeTo powerOn voiceWrite channelWrite writeInterval
+stop-then-start = refl
