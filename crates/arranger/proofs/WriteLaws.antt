@@ -108,7 +108,7 @@ pub sets-swap : {A : Type 0} (l : List A) (i j : ℕ) (x y : A) → (i ≡ j →
 sets-swap l i j x y same = go (ℕ-discrete i j)
   where
     go : Dec (i ≡ j) → set (set l i x) j y ≡ set (set l j y) i x
-    go (yes e) = rw (← e, set-set, set-set) (ap (set l i) (sym (same e)))
+    go (yes e) = rw (← e) (set-set l i x y ∙ ap (set l i) (sym (same e)) ∙ sym (set-set l i y x))
     go (no n) = set-comm l i j x y n
 
 -- the same where they are dropped or not
