@@ -1,7 +1,9 @@
 use oracle::console::Console;
 use oracle::programs::{Against, Kind};
 use oracle::stream::Maker;
-use oracle::{bench, constants, explain, listing, logcases, logstream, random, recorder, replay, sample, wavlog};
+use oracle::{
+    bench, constants, exchange, explain, listing, logcases, logstream, random, recorder, replay, sample, wavlog,
+};
 use std::io::{BufRead, BufWriter, Read, Write};
 use std::mem::take;
 use std::process::exit;
@@ -21,8 +23,9 @@ const USAGE: &str = "usage: oracle constants
        oracle wavlog                          the log of the stored run of crates/wav, to standard output
        oracle console FILE                    the console over the log in FILE
        oracle recorder                        the panel recorder over the script on standard input
-       oracle against list|wav|heard|drive|record FIRST SEEDS CASES FOUND PROGRAM [WORD..] [-- LISTER [WORD..]]
-                                              holds a program against these five; what differs goes to the folder FOUND
+       oracle exchange                        whether each pair of writes on standard input may be exchanged, by trial
+       oracle against list|wav|heard|drive|record|exchange FIRST SEEDS CASES FOUND PROGRAM [WORD..] [-- LISTER [WORD..]]
+                                              holds a program against these six; what differs goes to the folder FOUND
                                               with a smaller case, or nowhere where that is -; LISTER lists what a
                                               recorder makes";
 
@@ -49,13 +52,8 @@ fn main() {
         ["heard"] => put(listing::heard(&read_in()).as_bytes()),
         ["wavlog"] => put(&wavlog::stored()),
         ["console", file] => console(file),
-        ["recorder"] => {
-            let lines = std::io::stdin().lock().split(b'\n');
-            let lines = lines.map(|line| line.unwrap_or_else(|e| fail(&e.to_string())));
-            let recorded = recorder::record(lines, recorder::PROGRAM);
-            eprint!("{}", recorded.err.concat());
-            put(&recorded.out);
-        }
+        ["recorder"] => recorder(),
+        ["exchange"] => exchange(),
         ["against", kind, first, seeds, cases, found, ref program @ ..] if !program.is_empty() => {
             against(kind, [first, seeds, cases].map(number), found, program)
         }
@@ -162,6 +160,21 @@ fn console(file: &str) {
         let answer = console.answer(line.strip_suffix(b"\n").unwrap_or(&line));
         put(format!("{answer}\n").as_bytes());
         line.clear();
+    }
+}
+
+fn recorder() {
+    let lines = std::io::stdin().lock().split(b'\n');
+    let lines = lines.map(|line| line.unwrap_or_else(|e| fail(&e.to_string())));
+    let recorded = recorder::record(lines, recorder::PROGRAM);
+    eprint!("{}", recorded.err.concat());
+    put(&recorded.out);
+}
+
+fn exchange() {
+    for line in std::io::stdin().lock().split(b'\n') {
+        let line = line.unwrap_or_else(|e| fail(&e.to_string()));
+        put(&[&exchange::respond(&line)[..], b"\n"].concat());
     }
 }
 

@@ -115,26 +115,13 @@ impl Panel<'_> {
     }
 
     fn add(&mut self, w: Write) {
-        let [cycle, address, byte] = [w.due, w.address.into(), w.byte.into()].map(|n| self.numeral(n));
+        let [cycle, address, byte] = [w.due, w.address.into(), w.byte.into()].map(|n| numeral(self.r, n));
         self.put(format!("add {cycle} {address} {byte}").as_bytes());
     }
 
     fn finish(&mut self, length: u32) {
-        let length = self.numeral(length);
+        let length = numeral(self.r, length);
         self.put(format!("finish {length}").as_bytes());
-    }
-
-    /// Decimal or hex, hex in either case and in both, sometimes with zeros before it.
-    fn numeral(&mut self, n: u32) -> String {
-        let hex = self.r.one_in(3);
-        let most = if hex { 8 } else { 10 };
-        let width = if self.r.one_in(4) { 1 + self.r.below(most) as usize } else { 1 };
-        if !hex {
-            return format!("{n:0width$}");
-        }
-        let (small, large) = (format!("{n:0width$x}"), format!("{n:0width$X}"));
-        let mixed = small.chars().zip(large.chars()).map(|(s, l)| if self.r.one_in(2) { s } else { l }).collect();
-        "0x".to_string() + &[small, large, mixed][self.r.below(3) as usize]
     }
 
     /// A number at one of its limits, in any place.
@@ -187,6 +174,19 @@ impl Panel<'_> {
     }
 }
 
+/// Decimal or hex, hex in either case and in both, sometimes with zeros before it.
+pub fn numeral(r: &mut Numbers, n: u32) -> String {
+    let hex = r.one_in(3);
+    let most = if hex { 8 } else { 10 };
+    let width = if r.one_in(4) { 1 + r.below(most) as usize } else { 1 };
+    if !hex {
+        return format!("{n:0width$}");
+    }
+    let (small, large) = (format!("{n:0width$x}"), format!("{n:0width$X}"));
+    let mixed = small.chars().zip(large.chars()).map(|(s, l)| if r.one_in(2) { s } else { l }).collect();
+    "0x".to_string() + &[small, large, mixed][r.below(3) as usize]
+}
+
 // Lists, with a bar between two.
 const SKIPPED: &str = "||#|##|# a comment|#add 0 0 0|# finish 960|#\t|#\r|#\0|#é";
 
@@ -203,7 +203,7 @@ const TURNS: Forms = Forms {
 };
 
 /// Numbers around the limits of their places, and hex ones that are none.
-const LIMITS: &str = "0|255|256|257|65535|65536|65537|0000000255|0000065535|4294967295|4294967296|0x0|0x00000000|0x000000000|\
+pub const LIMITS: &str = "0|255|256|257|65535|65536|65537|0000000255|0000065535|4294967295|4294967296|0x0|0x00000000|0x000000000|\
     0xFF|0xff|0x100|0x000000FF|0xFFFF|0xffff|0x10000|0x0000FFFF|0xFFFFFFFF|0xffffffff|0xFfFfFfFf|0x100000000|0x1FFFFFFFF|\
     0x|0X|0X1|0XFF|x1|1x0|00x1|0x0x1|0x-1|0x+1|0x_1|0x1_0|0x 1|0x1h|ff|FF|0xg|0xG|0x@|0x`|0x/|0x:|0x１|0x\0|0xA|0xa|0xF|0xf|\
     0x0000000g|0x12345678|0x123456789|0x9|0xabcdef|0xABCDEF";

@@ -1,8 +1,10 @@
 //! Holds a program against the oracle's own answers, on random logs and scripts.
 
 use crate::console::{lines, session};
+use crate::exchange::{wrong, TRIED};
 use crate::listing::{check_sized, heard, listing, listing_of, refused, wav, LISTED, OPENED};
 use crate::log::{bytes_of, check, writes};
+use crate::pairs;
 use crate::panels;
 use crate::process::{run, Printed, Way, HUNG};
 use crate::random::Numbers;
@@ -26,10 +28,11 @@ pub enum Kind {
     Heard,
     Drive,
     Record,
+    Exchange,
 }
 
 impl Kind {
-    pub const ALL: [Kind; 5] = [Kind::List, Kind::Wav, Kind::Heard, Kind::Drive, Kind::Record];
+    pub const ALL: [Kind; 6] = [Kind::List, Kind::Wav, Kind::Heard, Kind::Drive, Kind::Record, Kind::Exchange];
 
     /// As the command line has it.
     pub fn word(self) -> &'static str {
@@ -39,6 +42,7 @@ impl Kind {
             Kind::Heard => "heard",
             Kind::Drive => "drive",
             Kind::Record => "record",
+            Kind::Exchange => "exchange",
         }
     }
 }
@@ -46,11 +50,13 @@ impl Kind {
 #[derive(Clone)]
 pub struct Case {
     pub kind: Kind,
-    /// empty for the recorder, which makes one
+    /// empty for the recorder, which makes one, and for pairs
     pub log: Vec<u8>,
-    /// empty but for the console and the recorder
+    /// empty but for the console, the recorder and pairs
     pub script: Vec<u8>,
     pub way: Way,
+    /// of the states that pairs are tried on
+    pub seed: u64,
 }
 
 pub fn case(kind: Kind, r: &mut Numbers) -> Case {
@@ -58,15 +64,17 @@ pub fn case(kind: Kind, r: &mut Numbers) -> Case {
         Kind::List => whole(r, LISTED),
         Kind::Wav | Kind::Heard => whole(r, OPENED),
         Kind::Drive => tunes::opened(r),
-        Kind::Record => Vec::new(),
+        Kind::Record | Kind::Exchange => Vec::new(),
     };
     let script = match kind {
         Kind::List | Kind::Wav | Kind::Heard => Vec::new(),
         Kind::Drive => script(r, &log),
         Kind::Record => panels::script(r),
+        Kind::Exchange => pairs::script(r),
     };
     let way = way(kind, r, log.len().max(script.len()));
-    Case { kind, log, script, way }
+    let seed = if kind == Kind::Exchange { r.word().into() } else { 0 };
+    Case { kind, log, script, way, seed }
 }
 
 fn whole(r: &mut Numbers, most: usize) -> Vec<u8> {
@@ -92,6 +100,7 @@ fn way(kind: Kind, r: &mut Numbers, size: usize) -> Way {
 /// What a program must print, and how many cycles it runs for that.
 #[derive(Default)]
 pub struct Wanted {
+    /// empty for pairs, whose answers are looked at by themselves: there are many leads to one no
     pub printed: Printed,
     /// the log, or of a script that it finishes one
     pub accepted: bool,
@@ -119,6 +128,7 @@ pub fn wanted(case: &Case) -> Wanted {
             wanted.cycles = session.cycles;
         }
         Kind::Record => wanted = wanted_of(record(lines(&case.script), PROGRAM)),
+        Kind::Exchange => {}
     }
     wanted
 }
@@ -140,6 +150,7 @@ pub fn different(case: &Case, expected: &Printed, got: &Printed) -> Option<Strin
     let out = match case.kind {
         Kind::Wav | Kind::Record => different_bytes(&expected.out, &got.out),
         Kind::List | Kind::Heard | Kind::Drive => different_lines(case, &expected.out, &got.out),
+        Kind::Exchange => wrong_answers(case, &got.out),
     };
     let err = different_lines(case, &expected.err, &got.err).map(|what| format!("standard error, {what}"));
     let both: Vec<String> = [out, err].into_iter().flatten().collect();
@@ -168,6 +179,21 @@ fn different_lines(case: &Case, expected: &[u8], got: &[u8]) -> Option<String> {
     }
     let shown = |lines: &[Vec<u8>]| lines.get(at).map_or("nothing".to_string(), |line| show(line));
     Some(text + &format!("expected: {}\ngot:      {}", shown(&expected), shown(&got)))
+}
+
+/// The first answer to a pair that does not hold, with what was sent for it.
+fn wrong_answers(case: &Case, got: &[u8]) -> Option<String> {
+    let (sent, got) = (lines(&case.script), cut(got));
+    (0..sent.len().max(got.len())).find_map(|at| {
+        let why = match (sent.get(at), got.get(at)) {
+            (Some(sent), Some(got)) => wrong(sent, got, case.seed)?,
+            (Some(_), None) => "expected: an answer".to_string(),
+            (None, _) => "expected: no line more".to_string(),
+        };
+        let [sent, got] = [sent.get(at).copied(), got.get(at).map(Vec::as_slice)]
+            .map(|line| line.map_or("nothing".to_string(), show));
+        Some(format!("line {}\nsent:     {sent}\ngot:      {got}\n{why}", at + 1))
+    })
 }
 
 /// K of `line K: ..`
@@ -206,29 +232,27 @@ impl Against {
             for number in 0..cases {
                 let case = case(kind, &mut r);
                 let wanted = wanted(&case);
-                if let Some(what) = self.differs(&case, &wanted) {
+                let printed = self.printed(&case, &wanted).map_err(|what| {
                     let name = format!("{}-{seed}-{number}", kind.word());
                     let keep = |found: &PathBuf| self.keep(&found.join(name), &case, &what);
                     let kept = self.found.as_ref().map_or(String::new(), keep);
-                    return Err(format!(
-                        "{} seed {seed} case {number} {what}\n{kept}up to here agreed {totals}",
-                        kind.word()
-                    ));
-                }
-                totals.add(&wanted);
+                    format!("{} seed {seed} case {number} {what}\n{kept}up to here agreed {totals}", kind.word())
+                })?;
+                totals.add(&Wanted { printed, ..wanted });
             }
             totals.seeds += 1;
         }
         Ok(totals)
     }
 
-    /// None where everything printed is as it has to be.
-    fn differs(&self, case: &Case, wanted: &Wanted) -> Option<String> {
-        match self.run(case, wanted) {
-            Err(why) => Some(why),
-            Ok((_, status)) if status != 0 => Some(format!("it ended with exit status {status}")),
-            Ok((got, _)) => different(case, &wanted.printed, &got).or_else(|| self.unsound(wanted, &got.out)),
+    /// What the program prints, where everything is as it has to be; else what is not.
+    fn printed(&self, case: &Case, wanted: &Wanted) -> Result<Printed, String> {
+        let (got, status) = self.run(case, wanted)?;
+        if status != 0 {
+            return Err(format!("it ended with exit status {status}"));
         }
+        let differs = different(case, &wanted.printed, &got).or_else(|| self.unsound(wanted, &got.out));
+        differs.map_or(Ok(got), Err)
     }
 
     /// A log that was recorded, read as 01 has it, and listed.
@@ -249,6 +273,7 @@ impl Against {
     fn run(&self, case: &Case, wanted: &Wanted) -> Result<(Printed, i32), String> {
         match case.kind {
             Kind::List | Kind::Wav | Kind::Heard => run(&self.program, &case.log, case.way),
+            Kind::Exchange => run(&self.program, &case.script, case.way),
             Kind::Drive => {
                 let file = self.room.join("log");
                 fs::write(&file, &case.log).map_err(|e| e.to_string())?;
@@ -290,13 +315,13 @@ impl Against {
                 text += &format!("{}: {how}, given {:?}\n", file.display(), case.way);
             }
         }
-        let again = self.differs(&small, &wanted(&small)).unwrap_or("agrees when run again".to_string());
+        let again = self.printed(&small, &wanted(&small)).err().unwrap_or("agrees when run again".to_string());
         format!("{text}the small one: {again}\n")
     }
 
     /// Gives the input whole, drops lines, then entries, and both again, as long as it differs.
     fn smaller(&self, case: &Case) -> Case {
-        let still = |case: Case| self.differs(&case, &wanted(&case)).is_some();
+        let still = |case: Case| self.printed(&case, &wanted(&case)).is_err();
         let mut small = Case { way: Way::Whole, ..case.clone() };
         if !still(small.clone()) {
             small.way = case.way;
@@ -338,7 +363,7 @@ fn fewer<T: Clone>(mut list: Vec<T>, still: impl Fn(&[T]) -> bool) -> Vec<T> {
 pub struct Totals {
     pub kind: Kind,
     pub seeds: u64,
-    /// logs, or a recorder's scripts
+    /// logs, or scripts of a recorder or with pairs
     pub cases: u64,
     /// logs that are refused, or scripts that finish none
     pub refused: u64,
@@ -350,6 +375,10 @@ pub struct Totals {
     /// a recorder's adds that it took, and its logs that were listed
     pub adds: u64,
     pub listings: u64,
+    /// pairs that may be exchanged, and that may not by the writes of their lead, and the states that they were tried on
+    pub may: u64,
+    pub may_not: [u64; 3],
+    pub states: u64,
     /// the refused logs by their line, and a program's answers by their first word; refusals by their number
     pub answers: BTreeMap<String, u64>,
 }
@@ -367,6 +396,9 @@ impl Totals {
             sorts: [0; 3],
             adds: 0,
             listings: 0,
+            may: 0,
+            may_not: [0; 3],
+            states: 0,
             answers: BTreeMap::new(),
         }
     }
@@ -381,6 +413,10 @@ impl Totals {
             Kind::Wav if wanted.accepted => {}
             Kind::Wav => self.count("log ", &err),
             Kind::Record => self.add_record(wanted, &err),
+            Kind::Exchange => {
+                self.lines += out.lines().count() as u64;
+                out.lines().for_each(|line| self.add_answer(line));
+            }
             Kind::List | Kind::Heard | Kind::Drive => {
                 self.lines += out.lines().count() as u64;
                 out.lines().filter_map(sorts).for_each(|sorts| (0..3).for_each(|i| self.sorts[i] += sorts[i]));
@@ -401,6 +437,29 @@ impl Totals {
         err.lines().filter_map(|line| line.split_once(": ")).for_each(|(_, answer)| self.count("", answer));
     }
 
+    fn pairs(&self) -> String {
+        let (may, [none, one, two]) = (self.may, self.may_not);
+        let pairs = may + none + one + two;
+        let by_lead = format!("{none} from power-on, {one} after one write, {two} after two");
+        format!("{pairs} pairs ({may} yes, {} no: {by_lead}) {} states", pairs - may, self.states)
+    }
+
+    /// Of a program that answers for pairs.
+    fn add_answer(&mut self, line: &str) {
+        if line.is_empty() || line.starts_with('#') {
+            self.count("", "shown");
+        } else if line.ends_with(" yes") {
+            self.may += 1;
+            self.states += TRIED as u64;
+        } else if let Some((_, no)) = line.split_once(" no ") {
+            let writes = if no.starts_with("after") { 1 + no.matches(", ").count() } else { 0 };
+            self.may_not[writes] += 1;
+            self.states += 1;
+        } else {
+            self.count("", line);
+        }
+    }
+
     fn count(&mut self, what: &str, line: &str) {
         let words = if line.starts_with("refused") { 2 } else { 1 };
         let answer: Vec<&str> = line.split(' ').take(words).collect();
@@ -419,25 +478,24 @@ fn sorts(line: &str) -> Option<[u64; 3]> {
 
 impl std::fmt::Display for Totals {
     fn fmt(&self, f: &mut std::fmt::Formatter) -> std::fmt::Result {
-        let Totals { kind, seeds, cases, refused, lines, bytes, cycles, sorts, adds, listings, answers } = self;
-        let (what, yes, no) = match kind {
-            Kind::Record => ("scripts", "finished", "not"),
-            _ => ("logs", "accepted", "refused"),
-        };
-        write!(f, "{seeds} seeds {cases} {what} ({} {yes}, {refused} {no}) ", cases - refused)?;
-        // a WAV has none
-        if *lines > 0 {
-            write!(f, "{lines} lines ")?;
-        }
+        let Totals { kind, seeds, cases, refused, lines, bytes, cycles, sorts, adds, listings, answers, .. } = self;
         match kind {
-            Kind::Record => write!(f, "{adds} adds {listings} listings ")?,
-            Kind::List | Kind::Heard | Kind::Drive => {
-                let [taken, held, none] = sorts;
-                write!(f, "{taken} taken {held} held {none} none ")?
+            Kind::Exchange => write!(f, "{seeds} seeds {cases} scripts {lines} lines {} {bytes} bytes", self.pairs())?,
+            Kind::Record => {
+                let finished = cases - refused;
+                write!(f, "{seeds} seeds {cases} scripts ({finished} finished, {refused} not) ")?;
+                write!(f, "{lines} lines {adds} adds {listings} listings {bytes} bytes {cycles} cycles")?
             }
-            Kind::Wav => {}
+            Kind::List | Kind::Wav | Kind::Heard | Kind::Drive => {
+                write!(f, "{seeds} seeds {cases} logs ({} accepted, {refused} refused) ", cases - refused)?;
+                // a WAV has none
+                if *kind != Kind::Wav {
+                    let [taken, held, none] = sorts;
+                    write!(f, "{lines} lines {taken} taken {held} held {none} none ")?;
+                }
+                write!(f, "{bytes} bytes {cycles} cycles")?
+            }
         }
-        write!(f, "{bytes} bytes {cycles} cycles")?;
         let answers: Vec<String> = answers.iter().map(|(answer, times)| format!("{answer}: {times}")).collect();
         if answers.is_empty() {
             return Ok(());

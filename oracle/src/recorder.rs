@@ -85,7 +85,7 @@ fn add(cycle: &[u8], address: &[u8], byte: &[u8]) -> Option<Turn> {
 }
 
 /// Decimal, "or 0x and 1 to 8 hex digits of either case"
-fn number(word: &[u8]) -> Option<u32> {
+pub fn number(word: &[u8]) -> Option<u32> {
     let Some(digits) = word.strip_prefix(b"0x") else { return decimal(word) };
     if !(1..=8).contains(&digits.len()) {
         return None;
