@@ -19,6 +19,7 @@ pub mod listing;
 pub mod log;
 pub mod logcases;
 pub mod logstream;
+pub mod pairlist;
 pub mod pairs;
 pub mod panels;
 pub mod player;

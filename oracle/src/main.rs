@@ -2,7 +2,8 @@ use oracle::console::Console;
 use oracle::programs::{Against, Kind};
 use oracle::stream::Maker;
 use oracle::{
-    bench, constants, exchange, explain, listing, logcases, logstream, random, recorder, replay, sample, wavlog,
+    bench, constants, exchange, explain, listing, logcases, logstream, pairlist, random, recorder, replay, sample,
+    wavlog,
 };
 use std::io::{BufRead, BufWriter, Read, Write};
 use std::mem::take;
@@ -23,6 +24,7 @@ const USAGE: &str = "usage: oracle constants
        oracle wavlog                          the log of the stored run of crates/wav, to standard output
        oracle console FILE                    the console over the log in FILE
        oracle recorder                        the panel recorder over the script on standard input
+       oracle exchangepairs                   the stored input of crates/exchange, to standard output
        oracle exchange                        whether each pair of writes on standard input may be exchanged, by trial
        oracle against list|wav|heard|drive|record|exchange FIRST SEEDS CASES FOUND PROGRAM [WORD..] [-- LISTER [WORD..]]
                                               holds a program against these six; what differs goes to the folder FOUND
@@ -53,6 +55,7 @@ fn main() {
         ["wavlog"] => put(&wavlog::stored()),
         ["console", file] => console(file),
         ["recorder"] => recorder(),
+        ["exchangepairs"] => put(pairlist::stored().as_bytes()),
         ["exchange"] => exchange(),
         ["against", kind, first, seeds, cases, found, ref program @ ..] if !program.is_empty() => {
             against(kind, [first, seeds, cases].map(number), found, program)

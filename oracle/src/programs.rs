@@ -4,6 +4,7 @@ use crate::console::{lines, session};
 use crate::exchange::{wrong, TRIED};
 use crate::listing::{check_sized, heard, listing, listing_of, refused, wav, LISTED, OPENED};
 use crate::log::{bytes_of, check, writes};
+use crate::pairlist;
 use crate::pairs;
 use crate::panels;
 use crate::process::{run, Printed, Way, HUNG};
@@ -224,8 +225,10 @@ impl Against {
     /// The totals of all seeds, or the first difference.
     pub fn compare(&self, kind: Kind, first: u64, seeds: u64, cases: u64) -> Result<Totals, String> {
         let mut totals = Totals::new(kind);
-        if kind == Kind::Drive {
-            self.unreadable()?;
+        match kind {
+            Kind::Drive => self.unreadable()?,
+            Kind::Exchange => self.listed(first)?,
+            _ => {}
         }
         for seed in first..first + seeds {
             let mut r = Numbers::new(seed);
@@ -301,6 +304,13 @@ impl Against {
             }
         }
         Ok(())
+    }
+
+    /// The stored list of pairs.
+    fn listed(&self, seed: u64) -> Result<(), String> {
+        let script = pairlist::stored().into();
+        let case = Case { kind: Kind::Exchange, log: Vec::new(), script, way: Way::Whole, seed };
+        self.printed(&case, &wanted(&case)).map(drop).map_err(|what| format!("the stored list, {what}"))
     }
 
     /// Writes down the case, and a smaller one that still differs. To wait for a program that hangs takes too long for many tries.
