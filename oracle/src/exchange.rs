@@ -19,7 +19,7 @@ pub struct Write {
 
 impl std::fmt::Display for Write {
     fn fmt(&self, f: &mut std::fmt::Formatter) -> std::fmt::Result {
-        write!(f, "0x{:04X} {}", self.address, self.byte)
+        write!(f, "0x{:04x} {}", self.address, self.byte)
     }
 }
 

@@ -45,8 +45,13 @@ const FIRST: &str =
 # Two of one sort: elsewhere; in one place with a bit that is kept, with bits that are not; the same write twice.
 ";
 
-/// The whole input: under headings the rows of each two sorts, the earlier one first, and what is besides.
+/// The whole input: the table, and lines that are no pairs.
 pub fn stored() -> String {
+    table() + LAST
+}
+
+/// Under headings the rows of each two sorts, the earlier one first, and what is besides.
+pub fn table() -> String {
     let mut text = FIRST.to_string();
     for (at, &s) in SORTS.iter().enumerate() {
         text += &format!("# {0}, {0}\n{1}", sample(s).name, lines(&alone(s)));
@@ -131,3 +136,30 @@ const BESIDES: [(&str, &[Row]); 3] = [
         ],
     ),
 ];
+
+/// Numbers too few, too many, too large; spaces too many, a tab; signs, words, a bare or upper-case 0x, digits too many; a pair with
+/// something far behind it; a comment that is cut. The last line is not ended.
+const LAST: &str = "# No pairs, and one that is, in other words
+
+0x400 128 0x580
+0x400 128 0x580 1 0
+65536 1 0x404 18
+0x000 256 0x404 18
+0x000 1 0x10000 18
+0x000 1 0x404 0x100
+4294967296 1 0x404 18
+0x400  128 0x580 1
+0x400 128 0x580 1\x20
+ 0x400 128 0x580 1
+0x400\t128 0x580 1
+0x400 +128 0x580 1
+0x400 128 -1 1
+0x400 128 stop 1
+0x 128 0x580 1
+0X400 128 0x580 1
+00000001024 128 0x580 1
+0x000000400 128 0x580 1
+exchange
+0x400 128 0x580 1                                                                                                               1
+# of a line the front of 128 bytes is kept, so that of a comment as long as this one what stands behind the hundred and twenty-eighth byte is not printed
+0000001024 0x00000080 1408 0x1";

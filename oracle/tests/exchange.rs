@@ -8,7 +8,7 @@ mod faults;
 use oracle::console::lines;
 use oracle::exchange::{led, parse, respond, trial, tried, wrong, Answer, Line, Pair, Write, KEPT, TRIED};
 use oracle::image::{image, LENGTH};
-use oracle::pairlist::stored;
+use oracle::pairlist::table;
 use oracle::pairs::{pair, Sort, SORTS};
 use oracle::process::Printed;
 use oracle::programs::{case, different, wanted, Case, Kind, Totals, Wanted};
@@ -504,7 +504,7 @@ fn echo(fault: Fault, sent: &[u8], mut pair: Pair) -> String {
     match fault {
         Fault::EchoAsSent => String::from_utf8_lossy(sent).into(),
         Fault::EchoInLowerCase => format!("{first} {second}").to_lowercase(),
-        Fault::EchoByteInHex => format!("0x{:04X} {:#x} {second}", first.address, first.byte),
+        Fault::EchoByteInHex => format!("0x{:04x} {:#x} {second}", first.address, first.byte),
         _ => format!("{first} {second}"),
     }
 }
@@ -637,7 +637,7 @@ fn names(heading: &str, s: Sort, t: Sort) -> bool {
 
 /// The pairs of the list, each with its heading: those for two sorts, or what is besides.
 fn rows(besides: bool) -> Vec<(String, Pair)> {
-    let text = stored();
+    let text = table();
     let (sorts, others) = text.split_at(text.find("# offset 0x14, bits 4 to 6").unwrap());
     let (mut heading, mut list) = (String::new(), Vec::new());
     for line in if besides { others } else { sorts }.lines() {
@@ -663,7 +663,7 @@ fn the_list_has_every_two_sorts() {
     sorts.dedup();
     let all: Vec<(usize, usize)> = (0..14).flat_map(|s| (s..14).map(move |t| (s, t))).collect();
     assert_eq!(sorts, all);
-    assert!(stored().lines().count() < 280 && stored().lines().all(|line| line.len() <= KEPT));
+    assert!(table().lines().count() < 280 && table().lines().all(|line| line.len() <= KEPT));
 }
 
 /// Every random pair is of a kind that the list has, and its answer is that of the row. So the answers to the list are the table.

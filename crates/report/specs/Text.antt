@@ -23,10 +23,6 @@ unfoldable pub hexOf : List ℕ → List ℕ
 hexOf [] = []
 hexOf (b ∷ bs) = glyph (b / 16) ∷ glyph (b % 16) ∷ hexOf bs
 
--- a 16-bit address, its high byte first
-abbrev pub addressOf : ℕ → List ℕ
-addressOf n = hexOf (n / 256 ∷ n % 256 ∷ [])
-
 -- `refused`, a space, and the two numbers with a space between them
 abbrev pub refusedOf : ℕ → ℕ → List ℕ
 refusedOf number carried =

@@ -5,7 +5,7 @@ ghost use mathlib.Core.List.{_++_};
 ghost use lib.ListN.{length};
 ghost use lib.Seq.{sets};
 ghost use Rattle.refusal.specs.Refusal.{numberOf, carriedOf};
-ghost use Rattle.report.specs.Text.{placeBehind, addressOf, decimalOf, hexOf, refusedOf};
+ghost use Rattle.report.specs.Text.{placeBehind, decimalOf, hexOf, refusedOf};
 use refusal::Refusal;
 
 pub fn words(out: &mut [u8], at: usize, text: &[u8]) -> usize
@@ -57,16 +57,6 @@ pub fn hex(out: &mut [u8], at: usize, bytes: &[u8]) -> usize
         i += 1;
     }
     next
-}
-
-// An address behind its words, always as four hex digits.
-pub fn address(out: &mut [u8], at: usize, text: &[u8], n: u16) -> usize
-    ensures { λ r. ⌜ r ≡ placeBehind (length (now (out .entry))) at (length (now (text .entry) ++ addressOf n)) ⌝ }
-    ensures { λ _. ⌜ now (out .exit) ≡ sets (now (out .entry)) at (now (text .entry) ++ addressOf n) ⌝ }
-{
-    let bytes = [(n / 256) as u8, (n % 256) as u8];
-    let a = words(out, at, text);
-    hex(out, a, &bytes)
 }
 
 // "A refusal prints `refused` with number and carried value, 0 where none is carried."

@@ -1,0 +1,84 @@
+// A line as a pair of writes. A line that is not exactly one, as by a second space or a sign, is `Not`.
+use lines::words;
+use lines::words::Number;
+ghost use Prim.Native.Nat.{_≤_};
+ghost use lib.ListN.{length};
+
+// A byte to an address, and a value to another.
+pub(crate) struct Pair {
+    pub(crate) address: u32,
+    pub(crate) byte: u8,
+    pub(crate) other: u32,
+    pub(crate) value: u8,
+}
+
+pub(crate) enum Found {
+    Writes(Pair),
+    Not,
+}
+
+// Where the first space is; the end where there is none.
+fn space(text: &[u8]) -> usize
+    ensures { λ r. ⌜ r ≤ length (now (text .entry)) ⌝ }
+{
+    let mut at = 0;
+    while at < text.len() {
+        if text[at] == b' ' {
+            return at;
+        }
+        at += 1;
+    }
+    at
+}
+
+// The largest number, which is neither an address nor a byte, where none stands.
+fn number(text: &[u8]) -> u32 {
+    let n = words::decimal_or_hex(text);
+    if let Number::Value(v) = n {
+        v
+    } else {
+        u32::MAX
+    }
+}
+
+// The number before the first space.
+fn front(text: &[u8]) -> u32 {
+    let k = space(text);
+    number(&text[0..k])
+}
+
+// What stands behind the first space: where there is none, nothing, which is no number.
+fn behind(text: &[u8]) -> &[u8] {
+    let k = space(text);
+    if k < text.len() {
+        return &text[k + 1..];
+    }
+    &text[k..]
+}
+
+// "address at most 65,535, byte at most 255"
+fn ranged(address: u32, byte: u32, other: u32, value: u32) -> Found {
+    if (address > 65_535) | (other > 65_535) {
+        return Found::Not;
+    }
+    if byte > 255 {
+        return Found::Not;
+    }
+    if value > 255 {
+        return Found::Not;
+    }
+    Found::Writes(Pair {
+        address: address,
+        byte: byte as u8,
+        other: other,
+        value: value as u8,
+    })
+}
+
+// `ADDRESS BYTE ADDRESS BYTE`
+pub(crate) fn pair_of(line: &[u8]) -> Found {
+    let second = behind(line);
+    let third = behind(second);
+    let fourth = behind(third);
+    ranged(front(line), front(second), front(third), number(fourth))
+}
