@@ -1,8 +1,6 @@
 // A line as a pair of writes. A line that is not exactly one, as by a second space or a sign, is `Not`.
 use lines::words;
 use lines::words::Number;
-ghost use Prim.Native.Nat.{_≤_};
-ghost use lib.ListN.{length};
 
 // A byte to an address, and a value to another.
 pub(crate) struct Pair {
@@ -17,20 +15,6 @@ pub(crate) enum Found {
     Not,
 }
 
-// Where the first space is; the end where there is none.
-fn space(text: &[u8]) -> usize
-    ensures { λ r. ⌜ r ≤ length (now (text .entry)) ⌝ }
-{
-    let mut at = 0;
-    while at < text.len() {
-        if text[at] == b' ' {
-            return at;
-        }
-        at += 1;
-    }
-    at
-}
-
 // The largest number, which is neither an address nor a byte, where none stands.
 fn number(text: &[u8]) -> u32 {
     let n = words::decimal_or_hex(text);
@@ -43,13 +27,13 @@ fn number(text: &[u8]) -> u32 {
 
 // The number before the first space.
 fn front(text: &[u8]) -> u32 {
-    let k = space(text);
+    let k = words::space(text);
     number(&text[0..k])
 }
 
 // What stands behind the first space: where there is none, nothing, which is no number.
 fn behind(text: &[u8]) -> &[u8] {
-    let k = space(text);
+    let k = words::space(text);
     if k < text.len() {
         return &text[k + 1..];
     }

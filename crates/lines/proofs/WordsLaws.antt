@@ -3,16 +3,32 @@ use Prim.Native.Nat.{ℕ, _+_, _-_, _*_, _<_, _≤_}
 use mathlib.Core.Path.{_≡_, sym, ap, _∙_}
 use mathlib.Core.Bool.{Bool, cond, true, false, true≢false, and-eq-true-iff}
 use mathlib.Core.List.{List, [], _∷_}
-use native.Mathlib.Nat.{mul-le-mul}
+use native.Mathlib.Nat.{add-zero, mul-le-mul}
 use native.Mathlib.Numerals.{add-one}
 use native.Mathlib.Omega.{arith}
-use borrow.Author.Tests.{lt-ltb, le-ltb, le-leb, lt-leb, leb-true}
+use borrow.Author.Tests.{lt-ltb, le-ltb, le-leb, lt-leb, leb-true, ne-eqb}
 use lib.Dec.{eqb}
 use lib.ListN.{getD, drop, length, take, length-take, length-drop, drop-of-length-le}
 use lib.Seq.{drop-cons, take-all}
 use Rattle.lines.specs.declared.words.Number.{Number}
 use Rattle.lines.specs.declared.words.Number.the-variants.{Value, Not}
-use Rattle.lines.specs.Words.{Begins, within, digitOf, readOn, marksHex}
+use Rattle.lines.specs.Words.{Begins, spaceOf, within, digitOf, readOn, marksHex}
+
+-- the loop to the first space: it is here, it is further on, it is nowhere
+
+module _ (text : List ℕ) (at : ℕ) (e : spaceOf text ≡ at + spaceOf (drop at text)) where
+  module _ (h : at < length text) where
+    pub space-here : getD text at 0 ≡ 32 → at ≡ spaceOf text
+    unfolding spaceOf
+    space-here p = sym (e ∙ rw (drop-cons text at 0 h, p) (add-zero at))
+
+    pub space-later : (getD text at 0 ≡ 32 → ⊥) → spaceOf text ≡ at + 1 + spaceOf (drop (at + 1) text)
+    unfolding spaceOf
+    space-later n = e ∙ rw (drop-cons text at 0 h, ne-eqb (getD text at 0) 32 n, add-one at) (omega arith)
+
+  pub space-nowhere : length text ≤ at → at ≡ spaceOf text
+  unfolding spaceOf
+  space-nowhere h = sym (e ∙ rw (drop-of-length-le text h) (add-zero at))
 
 -- the loop over digits: a turn of it, its two ways out before the end, and its end
 

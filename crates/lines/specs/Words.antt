@@ -1,5 +1,5 @@
 -- What a line begins with, and the numbers that people type.
-use Prim.Native.Nat.{ℕ, _+_, _*_, _-_}
+use Prim.Native.Nat.{ℕ, suc, _+_, _*_, _-_}
 use mathlib.Core.Bool.{Bool, cond, _&&_, _||_}
 use mathlib.Core.Path.{_≡_}
 use mathlib.Core.List.{List, [], _∷_}
@@ -11,6 +11,11 @@ use Rattle.lines.specs.declared.words.Number.the-variants.{Value, Not}
 -- a line begins with a word
 abbrev pub Begins : List ℕ → List ℕ → Type 0
 Begins line word = take (length word) line ≡ word
+
+-- where the first space (32) is; the end where there is none
+unfoldable pub spaceOf : List ℕ → ℕ
+spaceOf [] = 0
+spaceOf (b ∷ bs) = cond (eqb b 32) 0 (suc (spaceOf bs))
 
 abbrev pub within : ℕ → ℕ → ℕ → Bool
 within low high b = leb low b && leb b high

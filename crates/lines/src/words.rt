@@ -3,7 +3,7 @@ ghost use mathlib.Core.Path.{_≡_};
 ghost use mathlib.Core.Bool.{true};
 ghost use Prim.Native.Nat.{_≤_};
 ghost use lib.ListN.{length};
-ghost use Rattle.lines.specs.Words.{Begins, digitOf, digitsOf, decimalOf, marksHex, numberOf};
+ghost use Rattle.lines.specs.Words.{Begins, spaceOf, digitOf, digitsOf, decimalOf, marksHex, numberOf};
 
 pub enum Number {
     Value(u32),
@@ -20,6 +20,21 @@ pub fn begins(line: &[u8], word: &[u8]) -> bool
         return false;
     }
     check::same(&line[..k], word)
+}
+
+// Where the first space is; the end where there is none.
+pub fn space(text: &[u8]) -> usize
+    ensures { λ r. ⌜ r ≡ spaceOf (now (text .entry)) ⌝ }
+    ensures { λ r. ⌜ r ≤ length (now (text .entry)) ⌝ }
+{
+    let mut at = 0;
+    while at < text.len() {
+        if text[at] == b' ' {
+            return at;
+        }
+        at += 1;
+    }
+    at
 }
 
 // A digit's value, of either case; 16 for any other byte.

@@ -12,23 +12,9 @@ pub(crate) enum Call {
     Unknown,
 }
 
-// Where the first space is; the end where there is none.
-fn space(text: &[u8]) -> usize
-    ensures { λ r. ⌜ r ≤ length (now (text .entry)) ⌝ }
-{
-    let mut at = 0;
-    while at < text.len() {
-        if text[at] == b' ' {
-            return at;
-        }
-        at += 1;
-    }
-    at
-}
-
 // The number before the first space.
 fn front(text: &[u8]) -> Number {
-    let k = space(text);
+    let k = words::space(text);
     words::decimal_or_hex(&text[..k])
 }
 
@@ -36,7 +22,7 @@ fn front(text: &[u8]) -> Number {
 fn behind(text: &[u8]) -> usize
     ensures { λ r. ⌜ r ≤ length (now (text .entry)) ⌝ }
 {
-    let k = space(text);
+    let k = words::space(text);
     if k < text.len() {
         return k + 1;
     }

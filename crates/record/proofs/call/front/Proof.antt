@@ -9,7 +9,7 @@ space-requires : tie.Need-space-requires
 space-requires c κs = search needs
 
 slice-aggregate-decimal-or-hex : tie.Need-slice-aggregate-decimal-or-hex
-slice-aggregate-decimal-or-hex c = sym (length-take-le _ _ (c .before .space .ensures))
+slice-aggregate-decimal-or-hex c = sym (length-take-le _ _ (c .before .space .ensures .1))
 
 decimal-or-hex-requires : tie.Need-decimal-or-hex-requires
 decimal-or-hex-requires c κs = search needs
