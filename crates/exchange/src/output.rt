@@ -51,7 +51,7 @@ fn differs(d: Difference) -> bool {
                 & labelled(b" of the image is ", given as u64)
                 & labelled(b" or ", exchanged as u64)
         }
-        Difference::Nowhere => { io::write_all(STDOUT_FILENO, b": no byte of the image differs") }
+        Difference::Nowhere => io::write_all(STDOUT_FILENO, b": no byte of the image differs"),
     }
 }
 

@@ -18,11 +18,10 @@ pub(crate) enum Found {
 // The largest number, which is neither an address nor a byte, where none stands.
 fn number(text: &[u8]) -> u32 {
     let n = words::decimal_or_hex(text);
-    if let Number::Value(v) = n {
-        v
-    } else {
-        u32::MAX
-    }
+    let Number::Value(v) = n else {
+        return u32::MAX;
+    };
+    v
 }
 
 // The number before the first space.
@@ -40,7 +39,7 @@ fn behind(text: &[u8]) -> &[u8] {
     &text[k..]
 }
 
-// "address at most 65,535, byte at most 255"
+// An address is at most 65,535, as in a log, and a byte 255.
 fn ranged(address: u32, byte: u32, other: u32, value: u32) -> Found {
     if (address > 65_535) | (other > 65_535) {
         return Found::Not;
