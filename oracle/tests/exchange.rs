@@ -91,7 +91,7 @@ faults! {
     ByteOneMore,
     EchoByAddress,
     EchoAsSent,
-    EchoInLowerCase,
+    EchoInUpperCase,
     EchoByteInHex,
     // what is no pair
     CommentDropped,
@@ -372,17 +372,17 @@ fn answers_by_hand() {
         ("0x0000 1 0x0400 128", "0x0000 1 0x0400 128 no after 0x0000 254: byte 16 of the image is 1 or 62"),
         ("0x400 128 0 1", "0x0400 128 0x0000 1 no after 0x0000 254: byte 16 of the image is 62 or 1"),
         ("0x000 0 0x400 7", "0x0000 0 0x0400 7 no after 0x0000 255, 0x0400 128: byte 16 of the image is 63 or 0"),
-        ("0x27f 1 0x580 1", "0x027F 1 0x0580 1 no after 0x027F 254, 0x0500 128: byte 175 of the image is 62 or 1"),
-        ("0x2FC 255 0x520 0", "0x02FC 255 0x0520 0 no after 0x02FC 0, 0x0520 128: byte 207 of the image is 0 or 255"),
-        ("0x2FC 255 0x540 0", "0x02FC 255 0x0540 0 yes"),
+        ("0x27f 1 0x580 1", "0x027f 1 0x0580 1 no after 0x027f 254, 0x0500 128: byte 175 of the image is 62 or 1"),
+        ("0x2FC 255 0x520 0", "0x02fc 255 0x0520 0 no after 0x02fc 0, 0x0520 128: byte 207 of the image is 0 or 255"),
+        ("0x2FC 255 0x540 0", "0x02fc 255 0x0540 0 yes"),
         ("0x580 1 0x400 128", "0x0580 1 0x0400 128 no from power-on: byte 208 of the image is 2 or 0"),
         ("0x540 128 0x580 255", "0x0540 128 0x0580 255 no from power-on: byte 368 of the image is 0 or 2"),
         ("0x580 254 0x400 128", "0x0580 254 0x0400 128 yes"),
         ("0x400 128 0x400 129", "0x0400 128 0x0400 129 no from power-on: byte 209 of the image is 1 or 0"),
         ("0x400 128 0x420 192", "0x0400 128 0x0420 192 yes"),
-        ("0x408 1 0x40C 1", "0x0408 1 0x040C 1 yes"),
+        ("0x408 1 0x40C 1", "0x0408 1 0x040c 1 yes"),
         ("0x554 0 0x554 112", "0x0554 0 0x0554 112 no from power-on: byte 377 of the image is 11 or 14"),
-        ("65535 255 0 0", "0xFFFF 255 0x0000 0 yes"),
+        ("65535 255 0 0", "0xffff 255 0x0000 0 yes"),
     ];
     for (sent, answer) in steps {
         assert_eq!(wrong(sent.as_bytes(), format!("{answer}\n").as_bytes(), 1), None, "{sent}");
@@ -503,7 +503,7 @@ fn echo(fault: Fault, sent: &[u8], mut pair: Pair) -> String {
     let [first, second] = pair;
     match fault {
         Fault::EchoAsSent => String::from_utf8_lossy(sent).into(),
-        Fault::EchoInLowerCase => format!("{first} {second}").to_lowercase(),
+        Fault::EchoInUpperCase => format!("{first} {second}").to_uppercase().replace('X', "x"),
         Fault::EchoByteInHex => format!("0x{:04x} {:#x} {second}", first.address, first.byte),
         _ => format!("{first} {second}"),
     }
