@@ -27,7 +27,7 @@ isKind k (kinds.Noise shift tap output) = eqb k 5
 pub record OfKinds (u : Vsu) : Type 0 where
   pub kinds : (k : ℕ) → k < 6 → isKind k (voiceAt k (u .voices) .kind) ≡ true
 
--- The bits of a byte that channel k keeps of a write at an offset: those that 01 names there. What is no register keeps none.
+-- The bits of a byte that channel k, 0 to 5, keeps of a write at an offset: those that 01 names there. What is no register keeps none.
 unfoldable pub kept : ℕ → ℕ → ℕ → ℕ
 kept k offset b =
     cond (eqb offset 0x00) (bits 7 1 b * 128 + bits 0 6 b)

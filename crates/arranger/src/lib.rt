@@ -29,7 +29,7 @@ fn mode_kept(index: usize, byte: u8) -> u8
 }
 
 // The bits of a byte that a channel keeps of a write at an offset.
-pub fn kept(index: usize, offset: u32, byte: u8) -> u8
+fn kept(index: usize, offset: u32, byte: u8) -> u8
     ensures { λ r. ⌜ r ≡ kept index offset byte ⌝ }
 {
     match offset {
