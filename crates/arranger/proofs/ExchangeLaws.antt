@@ -1,4 +1,4 @@
--- Where the table says yes, either order gives one state; where it says no, there is a state on which it does not.
+-- Where the table says yes, either order gives one state; every state in range has its channels of their kinds.
 use Prim.Native.Nat.{ℕ, _-_, _/_, _%_, _<_, _≤_}
 use mathlib.Core.Path.{_≡_, refl, sym, ap, subst, _∙_}
 use mathlib.Core.Bool.{Bool, true, false, cond, not, _&&_, _||_, and-eq-true-iff, and-true, true≢false}
@@ -19,8 +19,10 @@ use Rattle.voice.specs.ChannelEnum.{noiseInRange, noiseKindInRange, stopVoice, 
 use Rattle.voice.specs.declared.channel_enum.Kind.{Kind}
 use Rattle.voice.specs.declared.channel_enum.Kind.the-variants as Kinds
 use Rattle.voice.specs.declared.channel_enum.Voice.{Voice}
-use Rattle.vsu.proofs.RangeLaws.{InRange, Six, range-facts}
-use Rattle.vsu.specs.Core.{between, decodeOf, inRange, withVoices, writeTo}
+use Rattle.vsu.proofs.CoreLaws.{unit-refused, write-gives}
+use Rattle.vsu.proofs.RangeLaws.{InRange, Six, range-facts, write-keeps}
+use Rattle.vsu.specs.Core.{between, decodeOf, inRange, withVoices, write, writeOf, writeTo, writtenBy}
+use Rattle.vsu.specs.declared.core.Written.{Written}
 use Rattle.vsu.specs.declared.core.Register.{Register}
 use Rattle.vsu.specs.declared.core.Register.the-variants.{Wave, Modulation, Channel, Stop, Nothing}
 use Rattle.vsu.specs.declared.core.Vsu.{Vsu}
@@ -246,3 +248,25 @@ in-range-kinds u r =
 -- Where the table says yes, either order of the two writes gives one state: for every state whose channels are of their kinds.
 pub may-exchange : (a b c d : ℕ) → b < 256 → d < 256 → mayExchange a b c d ≡ true → (u : Vsu) → OfKinds u → Exchanged a b c d u
 may-exchange a b c d h g y u i = either-order h g u i (decodeOf a) (decodeOf c) (decode-fits a) (decode-fits c) y
+
+-- By the call, whatever the state: out of range it is handed back as it is.
+pub calls-exchange : (a b c d : ℕ) → b < 256 → d < 256 → mayExchange a b c d ≡ true → (u : Vsu) → writeOf c d (writeOf a b u .state) .state ≡ writeOf a b (writeOf c d u .state) .state
+unfolding writtenBy
+calls-exchange a b c d h g y u = go (inRange u) refl
+  where
+    told : (v : Vsu) → inRange v ≡ true → (e f : ℕ) → writeOf e f v .state ≡ write e f v
+    told v r e f = ap (λ (w : Written). w .state) (write-gives v r e f)
+
+    back : (v : Vsu) → inRange v ≡ false → (e f : ℕ) → writeOf e f v .state ≡ v
+    back v r e f = rw (unit-refused v refl r)
+
+    go : (t : Bool) → inRange u ≡ t → writeOf c d (writeOf a b u .state) .state ≡ writeOf a b (writeOf c d u .state) .state
+    go true r =
+        ap (λ (v : Vsu). writeOf c d v .state) (told u r a b)
+        ∙ told (write a b u) (write-keeps u a b h r) c d
+        ∙ may-exchange a b c d h g y u (in-range-kinds u r)
+        ∙ sym (ap (λ (v : Vsu). writeOf a b v .state) (told u r c d) ∙ told (write c d u) (write-keeps u c d g r) a b)
+    go false r =
+        ap (λ (v : Vsu). writeOf c d v .state) (back u r a b)
+        ∙ back u r c d
+        ∙ sym (ap (λ (v : Vsu). writeOf a b v .state) (back u r c d) ∙ back u r a b)

@@ -422,6 +422,9 @@ pub start-then-sample : getD (write 0x000 1 (write 0x400 0x80 powerOn) .waves) 0
 unfolding decodeOf writeTo anyPlays powerOn voiceWrite channelWrite writeInterval
 start-then-sample = refl
 
+pub sample-and-start : Exchanged 0x000 1 0x400 0x80 powerOn → ⊥
+sample-and-start e = let one : _≡_ {A = ℕ} 1 0 = sym sample-then-start ∙ ap (λ (u : Vsu). getD (u .waves) 0 0) e ∙ start-then-sample in absurd (omega (arith, one))
+
 -- "nor the stop register and such a write": channel 0 is stopped, or plays
 pub start-then-stop : plays (voiceAt 0 (write 0x580 1 (write 0x400 0x80 powerOn) .voices)) ≡ false
 unfolding decodeOf writeTo powerOn
@@ -430,3 +433,6 @@ start-then-stop = refl
 pub stop-then-start : plays (voiceAt 0 (write 0x400 0x80 (write 0x580 1 powerOn) .voices)) ≡ true
 unfolding decodeOf writeTo powerOn voiceWrite channelWrite writeInterval
 stop-then-start = refl
+
+pub start-and-stop-all : Exchanged 0x400 0x80 0x580 1 powerOn → ⊥
+start-and-stop-all e = true≢false (sym stop-then-start ∙ sym (ap (λ (u : Vsu). plays (voiceAt 0 (u .voices))) e) ∙ start-then-stop)

@@ -82,9 +82,9 @@ beside Nothing b r d = true
 abbrev pub mayExchange : ℕ → ℕ → ℕ → ℕ → Bool
 mayExchange a b c d = beside (decodeOf a) b (decodeOf c) d
 
--- Where they may not, the state on which the order shows: power-on, or what one or two writes make of it.
+-- Where they may not, a state on which the order shows: power-on, or what one or two writes make of it.
 
--- dropped while a channel plays
+-- may be dropped, while a channel plays
 unfoldable pub dropped : Register → Bool
 dropped (Wave at) = true
 dropped (Modulation at) = true

@@ -103,7 +103,7 @@ fn beside_stop(byte: u8, other: Register, value: u8) -> bool
     }
 }
 
-// Whether either order of the two writes gives one state, whatever the state before them.
+// Whether either order of the two writes, by `vsu::core::write`, gives one state, whatever the state before them.
 pub fn may_exchange(address: u32, byte: u8, other: u32, value: u8) -> bool
     ensures { λ r. ⌜ r ≡ mayExchange address byte other value ⌝ }
 {
@@ -158,7 +158,8 @@ fn lead_to(address: u32, byte: u8, other: u32, value: u8) -> Lead
     }
 }
 
-// Where two writes may not be exchanged, the writes that lead from power-on to a state on which their order shows.
+// Where two writes may not be exchanged, the writes that lead from power-on to a state on which their order shows; where they may, it
+// means nothing.
 pub fn shown_after(address: u32, byte: u8, other: u32, value: u8) -> Lead
     ensures { λ r. ⌜ r ≡ leadOf address byte other value ⌝ }
 {

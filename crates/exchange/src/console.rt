@@ -30,7 +30,7 @@ fn judged(p: Pair) -> bool {
     written & output::no(lead, worked::shown(lead, p))
 }
 
-// Of more than a line's front, which nothing here keeps, nothing.
+// A length past the line's own, which no input has, is not answered.
 fn answered(line: &[u8; 128], kept: usize) -> bool {
     let front: &[u8] = line;
     if kept > front.len() {
@@ -44,7 +44,7 @@ fn answered(line: &[u8; 128], kept: usize) -> bool {
     }
 }
 
-// Whether all is written. The longest pair has 43 bytes, so that what is kept of a line longer than 128 is none. Nothing says that the
+// Whether all is written. The longest pair has 43 bytes, so that what is kept of a line longer than 128 is no pair. Nothing says that the
 // input ends, so the loop counts its turns down, from a number that no run uses up.
 pub(crate) fn run() -> bool {
     let mut bytes = [0u8; 4096];

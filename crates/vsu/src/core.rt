@@ -75,7 +75,7 @@ pub fn new() -> Vsu
     }
 }
 
-// The register at an address.
+// Public, so that there is one address map.
 pub fn decode(address: u32) -> Register
     ensures { λ r. ⌜ r ≡ decodeOf address ⌝ }
 {
