@@ -171,7 +171,7 @@ fn taken_where(has: bool) -> Said
 }
 
 // What a write to an address says, of any state. Apart from the write itself: with both in one function, and the state beside the answer, each
-// voice of the six is copied part by part, and a write costs twice as much (docs/PERFORMANCE.md).
+// voice of the six is copied part by part, and a write to a channel costs 1.8 times as much (docs/PERFORMANCE.md).
 pub fn says(u: Vsu, address: u32) -> Said
     ensures { λ r. ⌜ r ≡ says address u ⌝ }
 {
