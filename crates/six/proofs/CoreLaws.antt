@@ -1,8 +1,9 @@
 -- The cases of the definitions of specs/Core.antt, over plain variables.
-use Prim.Native.Nat.{ℕ, zero, suc, _+_, _*_, _<_, _≤_}
+use Prim.Native.Nat.{ℕ, zero, suc, _+_, _*_, _^_, _<_, _≤_}
 use mathlib.Core.Path.{_≡_, refl, sym, ap, _∙_}
 use mathlib.Core.Bool.{Bool, true, false, cond, _&&_, true≢false}
 use mathlib.Core.List.{List, [], _∷_, map, map-map}
+use native.Mathlib.Nat.{zero-div}
 use native.Mathlib.Numerals.{add-one}
 use native.Mathlib.Omega.{arith}
 use borrow.Author.Tests.{eqb-true, ltb-true}
@@ -10,15 +11,16 @@ use lib.Dec.{eqb, ltb}
 use lib.ListN.{getD, set, take, drop, length, length-map, drop-of-length-le}
 use lib.IntN.{ℤ}
 use lib.Seq.{drop-cons, take-all}
+use Rattle.common.specs.Bits.{bit}
 use Rattle.common.specs.Channel.{channelWrite, writeEnvelope, writeEnvelopeMode, writeHigh, writeInterval, writeLow, writeVolumes}
 use Rattle.laws.proofs.Cases.{each}
 use Rattle.sweep.specs.SweepModulate.{restart, rewrite, sweepWrite, writeMode, writeSweep}
-use Rattle.voice.specs.ChannelEnum.{hasOffset, isIn, kindWrite, noiseWrite, offsetsOf, stepAutoStop, stepFrequency, stepEnvelope, voiceWrite, waveWrite}
+use Rattle.voice.specs.ChannelEnum.{hasOffset, heard, isIn, kindWrite, noiseWrite, offsetsOf, stepAutoStop, stepFrequency, stepEnvelope, stopVoice, voiceWrite, waveWrite}
 use Rattle.voice.specs.declared.channel_enum.Kind.{Kind}
 use Rattle.voice.specs.declared.channel_enum.Kind.the-variants.{Wave, Swept, Noise}
 use Rattle.voice.specs.declared.channel_enum.Voice.{Voice}
-use Rattle.six.proofs.Upto.{upTo, upTo-more}
-use Rattle.six.specs.Core.{offNoise, offSwept, offWave, plays, anyPlays, sweepFifth, voicesAfter, total, heardLeft, heardRight, sumsOf}
+use Rattle.six.proofs.Upto.{upTo, upTo-more, upToBy}
+use Rattle.six.specs.Core.{offNoise, offSwept, offWave, plays, anyPlays, sweepFifth, voicesAfter, voicesAfterAll, total, heardLeft, heardRight, sumsOf, audible, silenced, silencedFrom, unmuted, unmutedFrom}
 use Rattle.six.specs.declared.core.Sums.{Sums}
 
 -- whether any voice plays, from the front
@@ -71,6 +73,78 @@ voice-more l d e h p q r = upTo-more stepVoice l d e h (r ∙ ap stepEnvelope (q
 pub after-walk : (m : List ℤ) (vs : List Voice) {ws r : List Voice} → ws ≡ map stepVoice vs → r ≡ sweepFifth m ws → r ≡ voicesAfter m vs
 unfolding voicesAfter
 after-walk m vs p q = q ∙ ap (sweepFifth m) (p ∙ sym (one-map stepEnvelope stepFrequency stepAutoStop vs))
+
+-- cycles one after the other
+pub one-cycle-more : (m : List ℤ) (n : ℕ) (vs : List Voice) {ws xs : List Voice} → ws ≡ voicesAfterAll m n vs → xs ≡ voicesAfter m ws → xs ≡ voicesAfterAll m (n + 1) vs
+unfolding voicesAfterAll
+one-cycle-more m n vs p q = rw (add-one n, ← p) q
+
+-- mutes
+
+module _ (mutes k : ℕ) (v : Voice) {p : Bool} (e : p ≡ bit k mutes) where
+  pub muted : p ≡ true → {w : Voice} → w ≡ stopVoice v → w ≡ audible mutes k v
+  muted t q = q ∙ rw (← e, t)
+
+  pub not-muted : p ≡ false → v ≡ audible mutes k v
+  not-muted t = rw (← e, t)
+
+-- a voice that is stopped adds nothing
+stopped-adds : (waves : List ℕ) (volume : ℕ) (v : Voice) → heard waves volume (stopVoice v) ≡ 0
+unfolding heard
+stopped-adds waves volume v = refl
+
+-- what the voices from channel k on add, by f, with the muted ones stopped: what those that are not muted add
+added : (f : Voice → ℕ) → ((v : Voice) → f (stopVoice v) ≡ 0) → (mutes k : ℕ) (vs : List Voice) → total (map f (silencedFrom mutes k vs)) ≡ total (map f (unmutedFrom mutes k vs))
+unfolding silencedFrom unmutedFrom
+added f z mutes k [] = refl
+added f z mutes k (v ∷ vs) = go (bit k mutes) (added f z mutes (suc k) vs)
+  where
+    go : (t : Bool) → total (map f (silencedFrom mutes (suc k) vs)) ≡ total (map f (unmutedFrom mutes (suc k) vs)) → f (cond t (stopVoice v) v) + total (map f (silencedFrom mutes (suc k) vs)) ≡ total (map f (cond t (unmutedFrom mutes (suc k) vs) (v ∷ unmutedFrom mutes (suc k) vs)))
+    go true e = omega (arith, z v, e)
+    go false e = omega (arith, e)
+
+-- "a muted voice adds nothing to a frame": the sums are those of the voices that are not muted
+pub sums-unmuted : (waves : List ℕ) (mutes : ℕ) (vs : List Voice) → sumsOf waves (silenced mutes vs) ≡ sumsOf waves (unmuted mutes vs)
+unfolding sumsOf
+sums-unmuted waves mutes vs =
+    λ j. record { left = added (heardLeft waves) (λ v. stopped-adds waves _ v) mutes 0 vs j; right = added (heardRight waves) (λ v. stopped-adds waves _ v) mutes 0 vs j }
+
+-- and no larger than those of all
+less : (f : Voice → ℕ) → ((v : Voice) → f (stopVoice v) ≡ 0) → (mutes k : ℕ) (vs : List Voice) → total (map f (silencedFrom mutes k vs)) ≤ total (map f vs)
+unfolding silencedFrom
+less f z mutes k [] = omega arith
+less f z mutes k (v ∷ vs) = go (bit k mutes) (less f z mutes (suc k) vs)
+  where
+    go : (t : Bool) → total (map f (silencedFrom mutes (suc k) vs)) ≤ total (map f vs) → f (cond t (stopVoice v) v) + total (map f (silencedFrom mutes (suc k) vs)) ≤ f v + total (map f vs)
+    go true h = omega (arith, z v, h)
+    go false h = omega (arith, h)
+
+module _ (waves : List ℕ) (mutes : ℕ) (vs : List Voice) where
+  pub silenced-left : sumsOf waves (silenced mutes vs) .left ≤ sumsOf waves vs .left
+  unfolding sumsOf
+  silenced-left = less (heardLeft waves) (λ v. stopped-adds waves _ v) mutes 0 vs
+
+  pub silenced-right : sumsOf waves (silenced mutes vs) .right ≤ sumsOf waves vs .right
+  unfolding sumsOf
+  silenced-right = less (heardRight waves) (λ v. stopped-adds waves _ v) mutes 0 vs
+
+-- with nothing muted, those of all
+pub none-muted : (k : ℕ) (vs : List Voice) → unmutedFrom 0 k vs ≡ vs
+unfolding unmutedFrom
+none-muted k [] = refl
+none-muted k (v ∷ vs) =
+    let z : bit k 0 ≡ false = rw (zero-div (2 ^ k)) in rw z (ap (λ (l : List Voice). v ∷ l) (none-muted (suc k) vs))
+
+-- the loop has gone through all of them
+all-silenced : (mutes j k : ℕ) (vs : List Voice) → length vs ≤ j → upToBy (audible mutes) j k vs ≡ silencedFrom mutes k vs
+unfolding upToBy silencedFrom
+all-silenced mutes zero k [] h = refl
+all-silenced mutes zero k (v ∷ vs) h = absurd (omega arith)
+all-silenced mutes (suc j) k [] h = refl
+all-silenced mutes (suc j) k (v ∷ vs) h = ap (λ (l : List Voice). audible mutes k v ∷ l) (all-silenced mutes j (suc k) vs (omega arith))
+
+pub silenced-all : (mutes : ℕ) {m : List Voice} (vs : List Voice) {j : ℕ} → m ≡ upToBy (audible mutes) j 0 vs → length vs ≤ j → m ≡ silenced mutes vs
+silenced-all mutes vs {j} e h = e ∙ all-silenced mutes j 0 vs h
 
 -- Every offset that a kind has is a register: there the byte 0xFF changes the voice of that kind that power-on has. By `no-offset` of `voice`
 -- no other offset does, so the list of offsets and the writes can't drift apart.

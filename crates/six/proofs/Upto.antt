@@ -1,7 +1,8 @@
 -- A loop that puts each element of a list through f, from the front: what it has after j turns.
 use Prim.Native.Nat.{ℕ, zero, suc, _+_, _≤_, _<_}
-use mathlib.Core.Path.{_≡_, refl, ap, _∙_}
+use mathlib.Core.Path.{_≡_, refl, ap, subst, _∙_}
 use mathlib.Core.List.{List, [], _∷_, map}
+use native.Mathlib.Nat.{add-zero, zero-add}
 use native.Mathlib.Numerals.{add-one}
 use native.Mathlib.Omega.{arith}
 use lib.ListN.{length, getD, set}
@@ -35,3 +36,27 @@ module _ {A : Type 0} (f : A → A) where
 
   pub upTo-all : {m : List A} (l : List A) {j : ℕ} → m ≡ upTo j l → length l ≤ j → m ≡ map f l
   upTo-all l {j} e h = e ∙ all j l h
+
+-- The same with a function that goes by the element's number, from k on.
+
+module _ {A : Type 0} (f : ℕ → A → A) where
+  -- the first j of the elements from number k on
+  unfoldable pub upToBy : ℕ → ℕ → List A → List A
+  upToBy zero k l = l
+  upToBy (suc j) k [] = []
+  upToBy (suc j) k (x ∷ l) = f k x ∷ upToBy j (suc k) l
+
+  pub upToBy-none : (k : ℕ) (l : List A) → l ≡ upToBy 0 k l
+  unfolding upToBy
+  upToBy-none k l = refl
+
+  stepBy : (j k : ℕ) (l : List A) (d : A) → j < length l → set (upToBy j k l) j (f (k + j) (getD (upToBy j k l) j d)) ≡ upToBy (suc j) k l
+  unfolding upToBy
+  stepBy j k [] d h = absurd (omega arith)
+  stepBy zero k (x ∷ l) d h = rw add-zero
+  stepBy (suc j) k (x ∷ l) d h =
+      let e : suc k + j ≡ k + suc j = omega arith in
+      ap (λ (t : List A). f k x ∷ t) (subst (λ (i : ℕ). set (upToBy j (suc k) l) j (f i (getD (upToBy j (suc k) l) j d)) ≡ upToBy (suc j) (suc k) l) e (stepBy j (suc k) l d (omega arith)))
+
+  pub upToBy-more : {m : List A} (l : List A) {j : ℕ} (d : A) {y : A} → m ≡ upToBy j 0 l → j < length l → y ≡ f j (getD m j d) → set m j y ≡ upToBy (j + 1) 0 l
+  upToBy-more l {j} d e h q = rw (q, e, add-one j) (rw zero-add at (stepBy j 0 l d h))

@@ -1,10 +1,11 @@
 -- The six voices together, in document 01's order and words.
-use Prim.Native.Nat.{ℕ, _+_}
-use mathlib.Core.Bool.{Bool, false, _&&_, _||_}
+use Prim.Native.Nat.{ℕ, zero, suc, _+_}
+use mathlib.Core.Bool.{Bool, false, cond, _&&_, _||_}
 use mathlib.Core.List.{List, [], _∷_, map}
 use lib.ListN.{getD, set}
 use lib.IntN.{ℤ}
-use Rattle.voice.specs.ChannelEnum.{voiceOf, stepAutoStop, stepFrequency, stepEnvelope, stepSweep, heard, waveInRange, sweptInRange, noiseInRange}
+use Rattle.common.specs.Bits.{bit}
+use Rattle.voice.specs.ChannelEnum.{voiceOf, stopVoice, stepAutoStop, stepFrequency, stepEnvelope, stepSweep, heard, waveInRange, sweptInRange, noiseInRange}
 use Rattle.common.specs.declared.channel.Channel.{Channel}
 use Rattle.voice.specs.declared.channel_enum.Kind.the-variants.{Wave, Swept, Noise}
 use Rattle.voice.specs.declared.channel_enum.Voice.{Voice}
@@ -89,6 +90,33 @@ heardRight waves v = heard waves (v .channel .right) v
 -- "Add the playing voices"
 unfoldable pub sumsOf : List ℕ → List Voice → Sums
 sumsOf waves vs = record { left = total (map (heardLeft waves) vs); right = total (map (heardRight waves) vs) }
+
+-- n cycles of the voices: what the code's inner contract goes by
+unfoldable pub voicesAfterAll : List ℤ → ℕ → List Voice → List Voice
+voicesAfterAll m zero vs = vs
+voicesAfterAll m (suc n) vs = voicesAfter m (voicesAfterAll m n vs)
+
+-- Mutes: "six mute bits, bit k for channel k; a muted voice adds nothing to a frame".
+
+-- a channel's voice as a frame takes it: one that is muted as if it were stopped
+abbrev pub audible : ℕ → ℕ → Voice → Voice
+audible mutes k v = cond (bit k mutes) (stopVoice v) v
+
+-- the voices of the channels from k on
+unfoldable pub silencedFrom : ℕ → ℕ → List Voice → List Voice
+silencedFrom mutes k [] = []
+silencedFrom mutes k (v ∷ vs) = audible mutes k v ∷ silencedFrom mutes (suc k) vs
+
+abbrev pub silenced : ℕ → List Voice → List Voice
+silenced mutes vs = silencedFrom mutes 0 vs
+
+-- those of them that are not muted
+unfoldable pub unmutedFrom : ℕ → ℕ → List Voice → List Voice
+unmutedFrom mutes k [] = []
+unmutedFrom mutes k (v ∷ vs) = cond (bit k mutes) (unmutedFrom mutes (suc k) vs) (v ∷ unmutedFrom mutes (suc k) vs)
+
+abbrev pub unmuted : ℕ → List Voice → List Voice
+unmuted mutes vs = unmutedFrom mutes 0 vs
 
 -- Range rules.
 

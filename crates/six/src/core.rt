@@ -1,4 +1,5 @@
-// The six voices: what the Rust's `VSU` does with its channels.
+// The six voices: what the Rust's `VSU` does with its channels, and the mutes.
+use common::bits;
 use common::channel::Channel;
 use common::channel::Envelope;
 use common::channel::Live;
@@ -13,7 +14,7 @@ use voice::channel_enum::step_sampling_frequency;
 ghost use mathlib.Core.Path.{_≡_};
 ghost use mathlib.Core.List.{map};
 ghost use Rattle.voice.specs.ChannelEnum.{stopVoice, stepAutoStop, stepFrequency, stepEnvelope};
-ghost use Rattle.six.specs.Core.{offChannel, offSwept, offVoices, anyPlays, sweepFifth, voicesAfter, sumsOf, voicesInRange};
+ghost use Rattle.six.specs.Core.{offChannel, offSwept, offVoices, anyPlays, sweepFifth, voicesAfter, voicesAfterAll, sumsOf, audible, silenced, voicesInRange};
 
 // What the playing voices add to each side.
 pub struct Sums {
@@ -185,6 +186,43 @@ pub fn cycle(voices: [Voice; 6], modulation: &[i8; 32]) -> [Voice; 6]
 {
     let stepped = step_voices(voices);
     step_sweep_modulate(stepped, modulation)
+}
+
+// n cycles, in a loop of their own: what a frame takes then doesn't weigh on a cycle (docs/PERFORMANCE.md).
+pub fn cycles(voices: [Voice; 6], modulation: &[i8; 32], n: u32) -> [Voice; 6]
+    ensures { λ r. ⌜ r ≡ voicesAfterAll (now (modulation .entry)) n voices ⌝ }
+{
+    let mut out = voices;
+    let mut i = 0;
+    while i < n {
+        let next = cycle(out, modulation);
+        out = next;
+        i += 1;
+    }
+    out
+}
+
+fn audible(v: Voice, mutes: u8, channel: u8) -> Voice
+    ensures { λ r. ⌜ r ≡ audible mutes channel v ⌝ }
+{
+    if bits::flag(mutes, channel) {
+        return channel_enum::stop_voice(v);
+    }
+    v
+}
+
+// The voices as a frame takes them: those that are muted as if they were stopped.
+pub fn silenced(voices: [Voice; 6], mutes: u8) -> [Voice; 6]
+    ensures { λ r. ⌜ r ≡ silenced mutes voices ⌝ }
+{
+    let mut out = voices;
+    let mut i = 0;
+    while i < 6 {
+        let v = out[i];
+        out[i] = audible(v, mutes, i as u8);
+        i += 1;
+    }
+    out
 }
 
 // What six voices add to each side.

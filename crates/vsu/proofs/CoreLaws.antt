@@ -51,7 +51,7 @@ each-byte (x ∷ xs) (u ∷ us) p = rw (le-leb (mag x) 127 (omega (arith, p .0 .
 pub bytes-told : (xs : List ℤ) (us : List Val) → shadow (each ℤ (SInt w8 .own) (map (λ (v : ℤ). v) xs) us) → allBytes xs ≡ true
 bytes-told xs us p = each-byte xs us (rw map-id at p)
 
-pub range-told : (u : Vsu) → length (u .voices) ≡ 6 → length (u .waves) ≡ 160 → length (u .modulation) ≡ 32 → allBytes (u .modulation) ≡ true → {v w : Bool} → v ≡ voicesInRange (u .voices) → w ≡ allAtMost 63 (u .waves) → (v && leb (u .output) 479 && w) ≡ inRange u
+pub range-told : (u : Vsu) → length (u .voices) ≡ 6 → length (u .waves) ≡ 160 → length (u .modulation) ≡ 32 → allBytes (u .modulation) ≡ true → {v w : Bool} → v ≡ voicesInRange (u .voices) → w ≡ allAtMost 63 (u .waves) → (v && leb (u .output) 479 && w && leb (u .mutes) 63) ≡ inRange u
 unfolding inRange shaped
 range-told u a b c d p q = rw (p, q, a, b, c, d)
 

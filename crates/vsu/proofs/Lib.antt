@@ -1,4 +1,5 @@
 pub mod CoreLaws
 pub mod RangeLaws
 pub mod RunLaws
+pub mod MutesLaws
 pub mod Figures

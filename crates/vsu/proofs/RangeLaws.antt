@@ -5,6 +5,7 @@ use mathlib.Core.Bool.{Bool, true, false, cond, _&&_}
 use mathlib.Core.List.{List, [], _∷_, map, map-id}
 use mathlib.Core.Logic.{_≢_}
 use native.Mathlib.Decide.{ℕ-discrete}
+use native.Mathlib.Nat.{le-trans}
 use native.Mathlib.Omega.{arith}
 use borrow.Author.Needs.{needs}
 use borrow.Author.Tests.{le-leb, leb-true, leb-false, ltb-true, ltb-false, eq-eqb, eqb-true}
@@ -20,7 +21,8 @@ use Rattle.common.specs.Channel.{channelInRange, liveInRange, pitchInRange, env
 use Rattle.sweep.specs.SweepModulate.{sweepInRange}
 use Rattle.voice.specs.ChannelEnum.{stopVoice, stepAutoStop, stepFrequency, stepEnvelope, stepSweep, voiceWrite, waveInRange, sweptInRange, noiseInRange, waveKindInRange, sweptKindInRange, noiseKindInRange}
 use Rattle.voice.specs.declared.channel_enum.Voice.{Voice}
-use Rattle.six.specs.Core.{anyPlays, heardLeft, heardRight, plays, sumsOf, sweepFifth, total, voiceAt, voicesAfter, voicesInRange}
+use Rattle.six.proofs.CoreLaws.{silenced-left, silenced-right}
+use Rattle.six.specs.Core.{anyPlays, heardLeft, heardRight, plays, silenced, sumsOf, sweepFifth, total, voiceAt, voicesAfter, voicesInRange}
 use Rattle.vsu.specs.Core.{SmallSums, allAtMost, allBytes, frameSide, cycle, decodeOf, makesFrame, frameOf, inRange, powerOn, run, shaped, write, writeTo}
 use Rattle.vsu.specs.declared.core.Register.{Register}
 use Rattle.vsu.specs.declared.core.Register.the-variants as registers
@@ -44,6 +46,7 @@ pub record InRange (u : Vsu) : Type 0 where
   pub entries : length (u .modulation) ≡ 32
   pub bytes : allBytes (u .modulation) ≡ true
   pub output : u .output ≤ 479
+  pub mutes : u .mutes ≤ 63
 
 six-facts : (vs : List Voice) → length vs ≡ 6 → voicesInRange vs ≡ true → Six vs
 unfolding voicesInRange
@@ -76,10 +79,10 @@ module _ (u : Vsu) where
   pub range-facts : inRange u ≡ true → InRange u
   unfolding inRange
   range-facts h =
-      each (shaped u) ((voicesInRange (u .voices) && leb (u .output) 479 && allAtMost 63 (u .waves)) ∷ []) h
+      each (shaped u) ((voicesInRange (u .voices) && leb (u .output) 479 && allAtMost 63 (u .waves) && leb (u .mutes) 63) ∷ []) h
       (λ k.
       let s = shape-facts (k .0) in
-      each (voicesInRange (u .voices)) (leb (u .output) 479 ∷ allAtMost 63 (u .waves) ∷ []) (k .1 .0)
+      each (voicesInRange (u .voices)) (leb (u .output) 479 ∷ allAtMost 63 (u .waves) ∷ leb (u .mutes) 63 ∷ []) (k .1 .0)
       (λ l.
       record {
         voices = six-facts (u .voices) (s .0) (l .0);
@@ -88,6 +91,7 @@ module _ (u : Vsu) where
         entries = s .2;
         bytes = s .3;
         output = leb-true _ _ (l .1 .0);
+        mutes = leb-true _ _ (l .1 .1 .1 .0);
       }))
 
   pub range-test : InRange u → inRange u ≡ true
@@ -95,7 +99,7 @@ module _ (u : Vsu) where
   range-test k =
       both
       (both (both (both (eq-eqb _ _ (k .voices .six)) (eq-eqb _ _ (k .waves))) (eq-eqb _ _ (k .entries))) (k .bytes))
-      (both (both (six-test (u .voices) (k .voices)) (le-leb _ _ (k .output))) (k .small))
+      (both (both (both (six-test (u .voices) (k .voices)) (le-leb _ _ (k .output))) (k .small)) (le-leb _ _ (k .mutes)))
 
 -- every voice through a function that keeps each range
 
@@ -188,6 +192,7 @@ cycle-facts u k =
       entries = k .entries;
       bytes = k .bytes;
       output = ways (λ (o : ℕ). o ≤ 479) (makesFrame u) (λ d. omega arith) (λ d. omega (arith, leb-false 480 (u .output + 1) d));
+      mutes = k .mutes;
     }
 
 pub cycle-keeps : (u : Vsu) → inRange u ≡ true → inRange (cycle u) ≡ true
@@ -238,6 +243,7 @@ module _ (u : Vsu) (k : InRange u) (b : ℕ) (h : b < 256) where
         entries = k .entries;
         bytes = k .bytes;
         output = k .output;
+        mutes = k .mutes;
       })
   write-facts (registers.Modulation at) =
       ways InRange (plays (voiceAt 4 (u .voices))) (λ _. k)
@@ -249,6 +255,7 @@ module _ (u : Vsu) (k : InRange u) (b : ℕ) (h : b < 256) where
         entries = length-set (u .modulation) at (signed b) ∙ k .entries;
         bytes = sized-set mag 127 (u .modulation) at (signed b) (signed-byte b h) (k .bytes);
         output = k .output;
+        mutes = k .mutes;
       })
   write-facts (registers.Channel j o) =
       record {
@@ -258,6 +265,7 @@ module _ (u : Vsu) (k : InRange u) (b : ℕ) (h : b < 256) where
         entries = k .entries;
         bytes = k .bytes;
         output = k .output;
+        mutes = k .mutes;
       }
   write-facts registers.Stop =
       ways InRange (bit 0 b)
@@ -269,6 +277,7 @@ module _ (u : Vsu) (k : InRange u) (b : ℕ) (h : b < 256) where
         entries = k .entries;
         bytes = k .bytes;
         output = k .output;
+        mutes = k .mutes;
       })
       (λ _. k)
   write-facts registers.Nothing = k
@@ -315,6 +324,14 @@ module _ (u : Vsu) (k : InRange u) where
             (λ v r. heard-le (u .waves) s _ (noise-kept .right v r) v (noise-kept .level v r)));
       }
 
+  -- and with some of the voices muted
+  pub quiet-muted : (mutes : ℕ) → SmallSums (sumsOf (u .waves) (silenced mutes (u .voices)))
+  quiet-muted mutes =
+      record {
+        left = le-trans (silenced-left (u .waves) mutes (u .voices)) (quiet .left);
+        right = le-trans (silenced-right (u .waves) mutes (u .voices)) (quiet .right);
+      }
+
 -- a frame's sides are multiples of 32 from 0 to 21,888
 
 pub record Side (z : ℤ) : Type 0 where
@@ -325,7 +342,8 @@ pub record Side (z : ℤ) : Type 0 where
 side-of : (sum : ℕ) → sum ≤ 5478 → Side (frameSide sum)
 side-of sum h = record { number = sum / 8; is = ap pos (omega arith); most = omega arith }
 
-pub frame-sides : (u : Vsu) → inRange u ≡ true → Side (frameOf (u .waves) (u .voices) .left) × Side (frameOf (u .waves) (u .voices) .right)
+pub frame-sides : (u : Vsu) → inRange u ≡ true → (mutes : ℕ) → Side (frameOf (u .waves) (silenced mutes (u .voices)) .left) × Side (frameOf (u .waves) (silenced mutes (u .voices)) .right)
 unfolding frameOf
-frame-sides u h =
-    let q : SmallSums (sumsOf (u .waves) (u .voices)) = quiet u (range-facts u h) in (side-of _ (q .left), side-of _ (q .right))
+frame-sides u h mutes =
+    let q : SmallSums (sumsOf (u .waves) (silenced mutes (u .voices))) = quiet-muted u (range-facts u h) mutes in
+    (side-of _ (q .left), side-of _ (q .right))

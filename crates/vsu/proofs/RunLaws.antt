@@ -13,13 +13,13 @@ use lib.ListN.{drop, set, length, getD, length-append, length-drop}
 use lib.Seq.{drop-cons}
 use Rattle.laws.proofs.Cases.{ways}
 use Rattle.voice.specs.declared.channel_enum.Voice.{Voice}
-use Rattle.vsu.proofs.RangeLaws.{Side, range-facts, cycle-keeps, run-keeps, quiet, frame-sides}
-use Rattle.six.specs.Core.{sumsOf, voicesAfter}
+use Rattle.vsu.proofs.RangeLaws.{Side, range-facts, cycle-keeps, run-keeps, quiet-muted, frame-sides}
+use Rattle.six.specs.Core.{silenced, sumsOf, voicesAfter, voicesAfterAll}
 use Rattle.vsu.specs.Core.{SmallSums, cycle, frameOf, makesFrame, frames, framesDue, inRange, made, run, sides}
 use Rattle.vsu.specs.declared.core.Frame.{Frame}
 use Rattle.vsu.specs.declared.core.Vsu.{Vsu}
 
--- a run leaves waves and modulation as they were
+-- a run leaves waves, modulation and mutes as they were
 
 pub run-waves : (n : ℕ) (u : Vsu) → run n u .waves ≡ u .waves
 unfolding run cycle
@@ -31,39 +31,92 @@ unfolding run cycle
 run-modulation zero u = refl
 run-modulation (suc n) u = run-modulation n u
 
-made-is : (w : Vsu) → 479 ≤ w .output → frameOf (w .waves) (cycle w .voices) ∷ [] ≡ made w
+pub run-mutes : (n : ℕ) (u : Vsu) → run n u .mutes ≡ u .mutes
+unfolding run cycle
+run-mutes zero u = refl
+run-mutes (suc n) u = run-mutes n u
+
+made-is : (w : Vsu) → 479 ≤ w .output → frameOf (w .waves) (silenced (w .mutes) (cycle w .voices)) ∷ [] ≡ made w
 unfolding made
 made-is w h = rw (le-leb 480 (w .output + 1) (omega arith))
 
--- one more cycle, from what the loops of `skip` and `step` hold
+-- a run of m + n cycles
 
-module _ (i : ℕ) (u : Vsu) where
-  pub next-voices : {vs ws : List Voice} → vs ≡ run i u .voices → ws ≡ voicesAfter (u .modulation) vs → ws ≡ run (i + 1) u .voices
+pub run-add : (m n : ℕ) (u : Vsu) → run (m + n) u ≡ run n (run m u)
+unfolding run
+run-add m zero u = rw add-zero
+run-add m (suc n) u = rw add-suc (ap cycle (run-add m n u))
+
+pub frames-add : (m n : ℕ) (u : Vsu) → frames (m + n) u ≡ frames m u ++ frames n (run m u)
+unfolding frames
+frames-add m zero u = rw (add-zero, append-nil)
+frames-add m (suc n) u = rw (add-suc, frames-add m n u, run-add m n u, append-assoc)
+
+-- n cycles in which no frame is made, and n of which the last makes one
+
+module _ (u : Vsu) where
+  voices-at : (n : ℕ) → run n u .voices ≡ voicesAfterAll (u .modulation) n (u .voices)
+  unfolding run cycle voicesAfterAll
+  voices-at zero = refl
+  voices-at (suc n) = ap₂ voicesAfter (run-modulation n u) (voices-at n)
+
+  counts-at : (n : ℕ) → u .output + n < 480 → run n u .output ≡ u .output + n
   unfolding run cycle
-  next-voices p q = rw (add-one i, q, p, run-modulation i u)
+  counts-at zero h = omega arith
+  counts-at (suc n) h = rw (counts-at n (omega arith), lt-leb 480 (u .output + n + 1) (omega arith)) (omega arith)
+
+  none-at : (n : ℕ) → u .output + n < 480 → frames n u ≡ []
+  unfolding frames made
+  none-at zero h = refl
+  none-at (suc n) h = rw (none-at n (omega arith), counts-at n (omega arith), lt-leb 480 (u .output + n + 1) (omega arith))
+
+  frame-at : (n : ℕ) → 0 < n → u .output + n ≡ 480 → run n u .output ≡ 0
+  unfolding run cycle
+  frame-at zero g h = absurd (omega arith)
+  frame-at (suc n) g h = rw (counts-at n (omega arith), le-leb 480 (u .output + n + 1) (omega arith))
+
+  one-at : (n : ℕ) → 0 < n → u .output + n ≡ 480 → frames n u ≡ frameOf (u .waves) (silenced (u .mutes) (run n u .voices)) ∷ []
+  unfolding frames run
+  one-at zero g h = absurd (omega arith)
+  one-at (suc n) g h =
+      rw (none-at n (omega arith))
+      (sym (made-is (run n u) (omega (arith, counts-at n (omega arith))))
+      ∙ ap₂ (λ (w : List ℕ) (m : ℕ). frameOf w (silenced m (cycle (run n u) .voices)) ∷ []) (run-waves n u) (run-mutes n u))
+
+-- k cycles more, from what the loop of `step` holds
+
+module _ (i k : ℕ) (u : Vsu) where
+  pub next-voices : {vs ws : List Voice} → vs ≡ run i u .voices → ws ≡ voicesAfterAll (u .modulation) k vs → ws ≡ run (i + k) u .voices
+  next-voices p q =
+      q ∙ ap₂ (λ (m : List ℤ) (v : List Voice). voicesAfterAll m k v) (sym (run-modulation i u)) p
+      ∙ sym (voices-at (run i u) k)
+      ∙ ap (λ (v : Vsu). v .voices) (sym (run-add i k u))
 
   module _ {o : ℕ} (p : o ≡ run i u .output) where
-    pub next-counts : o < 479 → o + 1 ≡ run (i + 1) u .output
-    unfolding run cycle
-    next-counts h = rw (add-one i, ← p, lt-leb 480 (o + 1) (omega arith))
+    pub next-counts : o + k < 480 → o + k ≡ run (i + k) u .output
+    next-counts h =
+        ap (λ (n : ℕ). n + k) p ∙ sym (counts-at (run i u) k (omega (arith, p, h))) ∙ ap (λ (v : Vsu). v .output) (sym (run-add i k u))
 
-    pub next-frame : 479 ≤ o → 0 ≡ run (i + 1) u .output
-    unfolding run cycle
-    next-frame h = rw (add-one i, ← p, le-leb 480 (o + 1) (omega arith))
+    pub none-made : o + k < 480 → frames i u ≡ frames (i + k) u
+    none-made h =
+        sym (frames-add i k u ∙ ap (λ (fs : List Frame). frames i u ++ fs) (none-at (run i u) k (omega (arith, p, h))) ∙ append-nil (frames i u))
 
-    pub none-made : o < 479 → frames i u ≡ frames (i + 1) u
-    unfolding frames made
-    none-made h = rw (add-one i, ← p, lt-leb 480 (o + 1) (omega arith), append-nil)
+    module _ (g : 0 < k) (h : o + k ≡ 480) where
+      pub next-frame : 0 ≡ run (i + k) u .output
+      next-frame = sym (frame-at (run i u) k g (omega (arith, p, h))) ∙ ap (λ (v : Vsu). v .output) (sym (run-add i k u))
 
-    pub one-made : 479 ≤ o → {f : Frame} {vs : List Voice} → vs ≡ run (i + 1) u .voices → f ≡ frameOf (u .waves) vs → frames i u ++ f ∷ [] ≡ frames (i + 1) u
-    unfolding frames run
-    one-made h {f} v q =
-        rw add-one
-        (ap (λ (l : List Frame). frames i u ++ l)
-        (ap (λ (g : Frame). g ∷ []) (q ∙ ap₂ frameOf (sym (run-waves i u)) (rw add-one at v)) ∙ made-is (run i u) (rw (← p) h)))
+      pub one-made : {f : Frame} {vs : List Voice} → vs ≡ run (i + k) u .voices → f ≡ frameOf (u .waves) (silenced (u .mutes) vs) → frames i u ++ f ∷ [] ≡ frames (i + k) u
+      one-made {f} v q =
+          ap (λ (fs : List Frame). frames i u ++ fs)
+          (ap (λ (x : Frame). x ∷ [])
+          (q ∙ ap₂ frameOf (sym (run-waves i u)) (ap₂ silenced (sym (run-mutes i u)) (v ∙ ap (λ (w : Vsu). w .voices) (run-add i k u))))
+          ∙ sym (one-at (run i u) k g (omega (arith, p, h))))
+          ∙ sym (frames-add i k u)
 
-  pub run-is : {vs : List Voice} {o : ℕ} → vs ≡ run i u .voices → o ≡ run i u .output → _≡_ {A = Vsu} (record { voices = vs; output = o; waves = u .waves; modulation = u .modulation }) (run i u)
-  run-is p q = λ j. record { voices = p j; output = q j; waves = sym (run-waves i u) j; modulation = sym (run-modulation i u) j }
+module _ (i : ℕ) (u : Vsu) where
+  pub run-is : {vs : List Voice} {o : ℕ} → vs ≡ run i u .voices → o ≡ run i u .output → _≡_ {A = Vsu} (record { voices = vs; output = o; waves = u .waves; modulation = u .modulation; mutes = u .mutes }) (run i u)
+  run-is p q =
+      λ j. record { voices = p j; output = q j; waves = sym (run-waves i u) j; modulation = sym (run-modulation i u) j; mutes = sym (run-mutes i u) j }
 
 -- the number of frames
 
@@ -87,18 +140,6 @@ module _ (u : Vsu) (h : u .output ≤ 479) where
       ∙ ways (λ (k : ℕ). length (frames n u) + k ≡ framesDue u (suc n)) (makesFrame (run n u))
       (λ d. omega (arith, frames-length n, output-at n, leb-true 480 (run n u .output + 1) d))
       (λ d. omega (arith, frames-length n, output-at n, leb-false 480 (run n u .output + 1) d))
-
--- a run of m + n cycles
-
-pub run-add : (m n : ℕ) (u : Vsu) → run (m + n) u ≡ run n (run m u)
-unfolding run
-run-add m zero u = rw add-zero
-run-add m (suc n) u = rw add-suc (ap cycle (run-add m n u))
-
-pub frames-add : (m n : ℕ) (u : Vsu) → frames (m + n) u ≡ frames m u ++ frames n (run m u)
-unfolding frames
-frames-add m zero u = rw (add-zero, append-nil)
-frames-add m (suc n) u = rw (add-suc, frames-add m n u, run-add m n u, append-assoc)
 
 -- the buffer
 
@@ -155,14 +196,14 @@ module _ (u : Vsu) (h : inRange u ≡ true) where
     pub front-within : i ≤ n → at ≤ room
     front-within l = omega (arith, front-at i e)
 
-    pub front-room : i < n → {o : ℕ} → o ≡ run i u .output → 479 ≤ o → at + 1 < room
-    front-room l p g = omega (arith, front-at i e, output-at u below i)
+    pub front-room : (k : ℕ) → i + k ≤ n → {o : ℕ} → o ≡ run i u .output → o + k ≡ 480 → at + 1 < room
+    front-room k l p g = omega (arith, front-at i e, output-at u below i)
 
-  pub quiet-at : (n : ℕ) {vs : List Voice} → vs ≡ run n u .voices → SmallSums (sumsOf (u .waves) vs)
+  pub quiet-at : (n : ℕ) {vs : List Voice} → vs ≡ run n u .voices → SmallSums (sumsOf (u .waves) (silenced (u .mutes) vs))
   quiet-at n p =
       rw p
-      (subst (λ (w : List ℕ). SmallSums (sumsOf w (run n u .voices))) (run-waves n u)
-      (quiet (run n u) (range-facts (run n u) (run-keeps n u h))))
+      (subst (λ (w : List ℕ). SmallSums (sumsOf w (silenced (u .mutes) (run n u .voices)))) (run-waves n u)
+      (quiet-muted (run n u) (range-facts (run n u) (run-keeps n u h)) (u .mutes)))
 
 -- every frame of a run from a state in range
 
@@ -179,7 +220,7 @@ Sides f = Side (f .left) × Side (f .right)
 
 made-sides : (w : Vsu) → inRange w ≡ true → Each Sides (made w)
 unfolding made cycle
-made-sides w h = ways (Each Sides) (makesFrame w) (λ _. (frame-sides (cycle w) (cycle-keeps w h), tt)) (λ _. tt)
+made-sides w h = ways (Each Sides) (makesFrame w) (λ _. (frame-sides (cycle w) (cycle-keeps w h) (w .mutes), tt)) (λ _. tt)
 
 pub frames-sides : (n : ℕ) (u : Vsu) → inRange u ≡ true → Each Sides (frames n u)
 unfolding frames

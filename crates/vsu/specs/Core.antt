@@ -12,7 +12,7 @@ use Rattle.refusal.specs.declared.Answer.the-variants.{Accepted, Refused}
 use Rattle.refusal.specs.declared.Refusal.the-variants.{State, Room}
 use Rattle.common.specs.Bits.{bit, signed}
 use Rattle.voice.specs.ChannelEnum.{voiceWrite, hasOffset, stopVoice}
-use Rattle.six.specs.Core.{offVoices, voicesAfter, sumsOf, voicesInRange}
+use Rattle.six.specs.Core.{offVoices, voicesAfter, sumsOf, silenced, voicesInRange}
 pub use Rattle.six.specs.Core.{voiceAt, plays}
 unfoldable pub use Rattle.six.specs.Core.{anyPlays}
 use Rattle.voice.specs.declared.channel_enum.Voice.{Voice}
@@ -31,18 +31,21 @@ use Rattle.vsu.specs.declared.core.Written.{Written}
 -- A state with one part changed.
 
 abbrev pub withVoices : Vsu → List Voice → Vsu
-withVoices u vs = record { voices = vs; output = u .output; waves = u .waves; modulation = u .modulation }
+withVoices u vs = record { voices = vs; output = u .output; waves = u .waves; modulation = u .modulation; mutes = u .mutes }
 
 abbrev pub withOutput : Vsu → ℕ → Vsu
-withOutput u o = record { voices = u .voices; output = o; waves = u .waves; modulation = u .modulation }
+withOutput u o = record { voices = u .voices; output = o; waves = u .waves; modulation = u .modulation; mutes = u .mutes }
 
 abbrev pub withWaves : Vsu → List ℕ → Vsu
-withWaves u w = record { voices = u .voices; output = u .output; waves = w; modulation = u .modulation }
+withWaves u w = record { voices = u .voices; output = u .output; waves = w; modulation = u .modulation; mutes = u .mutes }
 
 abbrev pub withModulation : Vsu → List ℤ → Vsu
-withModulation u m = record { voices = u .voices; output = u .output; waves = u .waves; modulation = m }
+withModulation u m = record { voices = u .voices; output = u .output; waves = u .waves; modulation = m; mutes = u .mutes }
 
--- "Power-on: all zero and off, tap 14."
+abbrev pub withMutes : Vsu → ℕ → Vsu
+withMutes u m = record { voices = u .voices; output = u .output; waves = u .waves; modulation = u .modulation; mutes = m }
+
+-- "Power-on: all zero and off, tap 14."; nothing muted
 
 unfoldable pub powerOn : Vsu
 powerOn =
@@ -51,6 +54,7 @@ powerOn =
       output = 0;
       waves = replicate 160 0;
       modulation = replicate 32 (pos 0);
+      mutes = 0;
     }
 
 -- Register writes.
@@ -111,9 +115,9 @@ frameSide sum = pos (sum / 8 * 8 * 4)
 unfoldable pub frameOf : List ℕ → List Voice → Frame
 frameOf waves vs = record { left = frameSide (sumsOf waves vs .left); right = frameSide (sumsOf waves vs .right) }
 
--- the frame that the cycle from u makes, where it makes one
+-- the frame that the cycle from u makes, where it makes one: "a muted voice adds nothing to a frame"
 unfoldable pub made : Vsu → List Frame
-made u = cond (makesFrame u) (frameOf (u .waves) (cycle u .voices) ∷ []) []
+made u = cond (makesFrame u) (frameOf (u .waves) (silenced (u .mutes) (cycle u .voices)) ∷ []) []
 
 -- Runs.
 
@@ -148,9 +152,9 @@ allBytes xs = allAtMost 127 (map mag xs)
 unfoldable pub shaped : Vsu → Bool
 shaped u = eqb (length (u .voices)) 6 && eqb (length (u .waves)) 160 && eqb (length (u .modulation)) 32 && allBytes (u .modulation)
 
--- "output counter 0..479; wave samples 0..63"
+-- "output counter 0..479; wave samples 0..63"; mutes "range 0 to 63"
 unfoldable pub inRange : Vsu → Bool
-inRange u = shaped u && (voicesInRange (u .voices) && leb (u .output) 479 && allAtMost 63 (u .waves))
+inRange u = shaped u && (voicesInRange (u .voices) && leb (u .output) 479 && allAtMost 63 (u .waves) && leb (u .mutes) 63)
 
 -- "Unit calls: 1, then 2".
 

@@ -8,17 +8,19 @@ use voice::channel_enum::Voice;
 ghost use mathlib.Core.Path.{_≡_};
 ghost use mathlib.Core.Bool.{true, cond};
 ghost use mathlib.Core.List.{_++_};
-ghost use Prim.Native.Nat.{_*_, _<_, _≤_};
+ghost use Prim.Native.Nat.{_+_, _*_, _<_, _≤_};
 ghost use lib.ListN.{length, drop};
 ghost use Rattle.refusal.specs.Refusal.{Tells};
-ghost use Rattle.six.specs.Core.{sumsOf};
+ghost use Rattle.six.specs.Core.{silenced, sumsOf};
 ghost use Rattle.vsu.specs.Core.{powerOn, decodeOf, writeTo, write, says, saidAnswer, frameOf, run, frames, framesDue, sides, allAtMost, inRange, unitAnswer, writeOf, advanceOf, runAnswer, runOf, SmallSums};
 
+// Bit k of the mutes is for channel k.
 pub struct Vsu {
     pub voices: [Voice; 6],
     pub output: u32,
     pub waves: [u8; 160],
     pub modulation: [i8; 32],
+    pub mutes: u8,
 }
 
 pub struct Frame {
@@ -72,6 +74,7 @@ pub fn new() -> Vsu
         output: 0,
         waves: [0; 160],
         modulation: [0; 32],
+        mutes: 0,
     }
 }
 
@@ -196,12 +199,14 @@ pub fn says(u: Vsu, address: u32) -> Said
     }
 }
 
-// The frame of six voices. Its caller has shown that they are in range, so that each side fits an i16.
-fn sample(voices: [Voice; 6], waves: &[u8; 160]) -> Frame
-    requires { ⌜ SmallSums (sumsOf (now waves) voices) ⌝ }
-    ensures { λ r. ⌜ r ≡ frameOf (now (waves .entry)) voices ⌝ }
+// The frame of six voices, those that are muted as if they were stopped. Its caller has shown that they are in range, so that each side
+// fits an i16.
+fn sample(voices: [Voice; 6], waves: &[u8; 160], mutes: u8) -> Frame
+    requires { ⌜ SmallSums (sumsOf (now waves) (silenced mutes voices)) ⌝ }
+    ensures { λ r. ⌜ r ≡ frameOf (now (waves .entry)) (silenced mutes voices) ⌝ }
 {
-    let s = six::core::mix(voices, waves);
+    let audible = six::core::silenced(voices, mutes);
+    let s = six::core::mix(audible, waves);
     Frame {
         left: (s.left / 8 * 32) as i16,
         right: (s.right / 8 * 32) as i16,
@@ -227,7 +232,7 @@ pub fn in_range(u: Vsu) -> bool
 {
     let voices = u.voices;
     let waves = u.waves;
-    six::core::in_range(voices) & (u.output <= 479) & samples_in_range(&waves)
+    six::core::in_range(voices) & (u.output <= 479) & samples_in_range(&waves) & (u.mutes <= 63)
 }
 
 // The answer that a write's is: each of the three sorts is an acceptance.
@@ -266,6 +271,15 @@ pub fn frames_due(u: Vsu, n: u32) -> u64
     ((u.output as u64) + (n as u64)) / (SOUND_SAMPLE_RATE_CYCLE_COUNT as u64)
 }
 
+// How many of the cycles left come before the next frame, its own among them.
+fn up_to_frame(left: u32, output: u32) -> u32
+    requires { ⌜ output ≤ 479 ⌝ }
+    ensures { λ r. ⌜ (r ≤ left) × (output + r ≤ 480) × (0 < left → 0 < r) ⌝ }
+{
+    let due = SOUND_SAMPLE_RATE_CYCLE_COUNT - output;
+    if left < due { left } else { due }
+}
+
 // n cycles, whose frames fill the front of `out`. For callers that have made the two checks of `run`.
 fn step(u: Vsu, n: u32, out: &mut [i16]) -> Vsu
     requires { ⌜ (inRange u ≡ true) × (framesDue u n * 2 ≤ length (now out)) ⌝ }
@@ -278,14 +292,15 @@ fn step(u: Vsu, n: u32, out: &mut [i16]) -> Vsu
     let mut at = 0;
     let mut i = 0;
     while i < n {
-        let next = six::core::cycle(voices, &modulation);
+        let part = up_to_frame(n - i, output);
+        let next = six::core::cycles(voices, &modulation, part);
         voices = next;
-        i += 1;
-        if output < SOUND_SAMPLE_RATE_CYCLE_COUNT - 1 {
-            output += 1;
+        i += part;
+        if output + part < SOUND_SAMPLE_RATE_CYCLE_COUNT {
+            output += part;
         } else {
             output = 0;
-            let f = sample(voices, &waves);
+            let f = sample(voices, &waves, u.mutes);
             let l = f.left;
             let r = f.right;
             out[at] = l;

@@ -1,31 +1,35 @@
 use Rattle.vsu.proofs.CoreLaws as laws
 use native.Mathlib.Omega.{arith}
-use mathlib.Core.Path.{_≡_, sym, ap, refl}
+use mathlib.Core.Path.{refl}
 use Rattle.vsu.specs.Core.{frameOf}
-use Rattle.six.specs.declared.core.Sums.{Sums}
-use Prim.Native.Nat.{ℕ, _≤_}
 use borrow.Author.Needs.{needs}
 use Rattle.vsu.proofs.core.sample.Statement.{statement}
 use Rattle.vsu.proofs.core.sample.Tie as tie
 
+silenced-requires : tie.Need-silenced-requires
+silenced-requires c κs = search needs
+
 mix-requires : tie.Need-mix-requires
 mix-requires c κs = search needs
 
-mul-t5 : tie.Need-mul-t5
-mul-t5 c = omega (arith, rw (← (c .before .mix .ensures)) at (c .before .before .pre .left))
+mul-t7 : tie.Need-mul-t7
+mul-t7 c = omega (arith, rw (← (c .before .before .silenced .ensures), ← (c .before .mix .ensures)) at (c .before .before .before .pre .left))
 
-cast-t6 : tie.Need-cast-t6
-cast-t6 c = record { sfits = omega (arith, rw (← (c .before .mix .ensures)) at (c .before .before .pre .left)) }
+cast-t8 : tie.Need-cast-t8
+cast-t8 c = record { sfits = omega (arith, rw (← (c .before .before .silenced .ensures), ← (c .before .mix .ensures)) at (c .before .before .before .pre .left)) }
 
-mul-t8 : tie.Need-mul-t8
-mul-t8 c = omega (arith, rw (← (c .before .before .mix .ensures)) at (c .before .before .before .pre .right))
+mul-t10 : tie.Need-mul-t10
+mul-t10 c = omega (arith, rw (← (c .before .before .before .silenced .ensures), ← (c .before .before .mix .ensures)) at (c .before .before .before .before .pre .right))
 
-cast-t9 : tie.Need-cast-t9
-cast-t9 c = record { sfits = omega (arith, rw (← (c .before .before .mix .ensures)) at (c .before .before .before .pre .right)) }
+cast-t11 : tie.Need-cast-t11
+cast-t11 c = record { sfits = omega (arith, rw (← (c .before .before .before .silenced .ensures), ← (c .before .before .mix .ensures)) at (c .before .before .before .before .pre .right)) }
 
 returns : tie.Need-returns
 unfolding frameOf
-returns c = rw (laws.frame-side (rw (← (c .before .before .mix .ensures)) at (c .before .before .before .pre .left)), laws.frame-side (rw (← (c .before .before .mix .ensures)) at (c .before .before .before .pre .right)), (c .before .before .mix .ensures)) refl
+returns c =
+    let l = rw (← (c .before .before .before .silenced .ensures), ← (c .before .before .mix .ensures)) at (c .before .before .before .before .pre .left) in
+    let r = rw (← (c .before .before .before .silenced .ensures), ← (c .before .before .mix .ensures)) at (c .before .before .before .before .pre .right) in
+    rw (laws.frame-side l, laws.frame-side r, (c .before .before .mix .ensures), (c .before .before .before .silenced .ensures)) refl
 
 pub sample-spec : {M : Type 1} → statement M
-sample-spec = tie.close (tie.spec mix-requires mul-t5 cast-t6 mul-t8 cast-t9 returns)
+sample-spec = tie.close (tie.spec silenced-requires mix-requires mul-t7 cast-t8 mul-t10 cast-t11 returns)

@@ -8,6 +8,7 @@ use Prim.Native.Nat.{ℕ, _+_, _*_, _^_, _≤_, _<_, _-_}
 use mathlib.Core.Path.{_≡_, refl, sym, ap, _∙_}
 use borrow.Author.Needs.{needs}
 use native.Mathlib.Omega.{arith}
+use Rattle.vsu.proofs.RangeLaws.{range-facts, run-keeps}
 use Rattle.vsu.proofs.RunLaws as laws
 use Rattle.vsu.specs.Core.{run, frames, framesDue, sides}
 use lib.ListN.{length, drop}
@@ -32,42 +33,58 @@ loop-holds : tie.Need-loop-holds Inv-loop μ-loop
 unfolding run frames sides
 loop-holds c = (search needs, refl, refl, refl, refl)
 
-cycle-requires : tie.Need-cycle-requires Inv-loop μ-loop
-cycle-requires c κs = search needs
+sub-up-to-frame : tie.Need-sub-up-to-frame Inv-loop μ-loop
+sub-up-to-frame c = search needs
+
+-- the counter of a state in range
+counter : (c : tie.In-loop Inv-loop μ-loop) → (c .before .loop .output) ≤ 479
+counter c = omega (arith, (c .before .loop .inv) .2, range-facts (run (c .before .loop .i) (c .before .before .before .before .before .args .u)) (run-keeps (c .before .loop .i) (c .before .before .before .before .before .args .u) (c .before .before .before .before .before .pre .0)) .output)
+
+up-to-frame-requires : tie.Need-up-to-frame-requires Inv-loop μ-loop
+up-to-frame-requires c κs = counter c
+
+cycles-requires : tie.Need-cycles-requires Inv-loop μ-loop
+cycles-requires c κs = search needs
 
 add-i : tie.Need-add-i Inv-loop μ-loop
-add-i c = search needs
+add-i c = omega (arith, (c .before .before .up-to-frame .ensures) .0)
 
-sub-if1 : tie.Need-sub-if1 Inv-loop μ-loop
-sub-if1 c = search needs
+add-if1 : tie.Need-add-if1 Inv-loop μ-loop
+add-if1 c = omega (arith, (c .before .before .up-to-frame .ensures) .1)
 
 add-output : tie.Need-add-output Inv-loop μ-loop
-add-output c = search needs
+add-output c = omega (arith, (c .before .before .before .up-to-frame .ensures) .1)
 
 loop-less : tie.Need-loop-less Inv-loop μ-loop
-loop-less c = search needs
+loop-less c = omega (arith, (c .before .before .before .up-to-frame .ensures) .0, (c .before .before .before .up-to-frame .ensures) .2 (omega arith))
 
 loop-again : tie.Need-loop-again Inv-loop μ-loop
-loop-again c = (search needs, laws.next-voices (c .before .before .before .before .loop .i) (c .before .before .before .before .before .before .before .before .args .u) ((c .before .before .before .before .loop .inv) .1) (c .before .cycle .ensures), laws.next-counts (c .before .before .before .before .loop .i) _ ((c .before .before .before .before .loop .inv) .2) (c .if1 .taken), ((c .before .before .before .before .loop .inv) .3) ∙ ap (λ (fs : List Frame). length (sides fs)) (laws.none-made (c .before .before .before .before .loop .i) (c .before .before .before .before .before .before .before .before .args .u) ((c .before .before .before .before .loop .inv) .2) (c .if1 .taken)), ((c .before .before .before .before .loop .inv) .4) ∙ ap (λ (fs : List Frame). sides fs ++ drop (c .before .before .before .before .loop .at) (now (c .before .before .before .before .before .before .before .before .args .out))) (laws.none-made (c .before .before .before .before .loop .i) (c .before .before .before .before .before .before .before .before .args .u) ((c .before .before .before .before .loop .inv) .2) (c .if1 .taken)))
+loop-again c = (omega (arith, (c .before .before .before .up-to-frame .ensures) .0), laws.next-voices (c .before .before .before .before .before .loop .i) (c .before .before .before .up-to-frame .result) (c .before .before .before .before .before .before .before .before .before .args .u) ((c .before .before .before .before .before .loop .inv) .1) (c .before .cycles .ensures), laws.next-counts (c .before .before .before .before .before .loop .i) (c .before .before .before .up-to-frame .result) (c .before .before .before .before .before .before .before .before .before .args .u) ((c .before .before .before .before .before .loop .inv) .2) (c .if1 .taken), ((c .before .before .before .before .before .loop .inv) .3) ∙ ap (λ (fs : List Frame). length (sides fs)) (laws.none-made (c .before .before .before .before .before .loop .i) (c .before .before .before .up-to-frame .result) (c .before .before .before .before .before .before .before .before .before .args .u) ((c .before .before .before .before .before .loop .inv) .2) (c .if1 .taken)), ((c .before .before .before .before .before .loop .inv) .4) ∙ ap (λ (fs : List Frame). sides fs ++ drop (c .before .before .before .before .before .loop .at) (now (c .before .before .before .before .before .before .before .before .before .args .out))) (laws.none-made (c .before .before .before .before .before .loop .i) (c .before .before .before .up-to-frame .result) (c .before .before .before .before .before .before .before .before .before .args .u) ((c .before .before .before .before .before .loop .inv) .2) (c .if1 .taken)))
 
 sample-requires : tie.Need-sample-requires Inv-loop μ-loop
-sample-requires c κs = laws.quiet-at (c .before .before .before .before .before .before .before .before .before .args .u) ((c .before .before .before .before .before .before .before .before .before .pre .0)) ((c .before .before .before .before .before .loop .i) + 1) (laws.next-voices (c .before .before .before .before .before .loop .i) (c .before .before .before .before .before .before .before .before .before .args .u) ((c .before .before .before .before .before .loop .inv) .1) (c .before .before .cycle .ensures))
+sample-requires c κs = laws.quiet-at (c .before .before .before .before .before .before .before .before .before .before .args .u) (c .before .before .before .before .before .before .before .before .before .before .pre .0) ((c .before .before .before .before .before .before .loop .i) + (c .before .before .before .before .up-to-frame .result)) (laws.next-voices (c .before .before .before .before .before .before .loop .i) (c .before .before .before .before .up-to-frame .result) (c .before .before .before .before .before .before .before .before .before .before .args .u) ((c .before .before .before .before .before .before .loop .inv) .1) (c .before .before .cycles .ensures))
 
--- where a frame is made: it has room, the buffer is as long as it was, and each side is stored as it is
-room : (c : tie.After-struct-told2 Inv-loop μ-loop) → (c .before .before .before .before .before .before .before .before .loop .at) + 1 < length (now (c .before .before .before .before .before .before .before .before .before .before .before .before .args .out))
-room c = laws.front-room (c .before .before .before .before .before .before .before .before .before .before .before .before .args .u) ((c .before .before .before .before .before .before .before .before .before .before .before .before .pre .0)) (c .before .before .before .before .before .before .before .before .loop .i) (c .before .before .before .before .before .before .before .before .before .before .before .before .args .n) (length (now (c .before .before .before .before .before .before .before .before .before .before .before .before .args .out))) ((c .before .before .before .before .before .before .before .before .before .before .before .before .pre .1)) ((c .before .before .before .before .before .before .before .before .loop .inv) .3) (c .before .before .before .before .before .before .before .loop-test .taken) ((c .before .before .before .before .before .before .before .before .loop .inv) .2) (c .before .before .before .before .if1 .left)
+-- where a frame is made: there is a cycle to it, it has room, the buffer is as long as it was, and each side is stored as it is
+some : (c : tie.After-struct-told2 Inv-loop μ-loop) → 0 < (c .before .before .before .before .before .before .before .up-to-frame .result)
+some c = (c .before .before .before .before .before .before .before .up-to-frame .ensures) .2 (omega arith)
 
-long : (c : tie.After-struct-told2 Inv-loop μ-loop) → length (c .before .before .before .before .before .before .before .before .loop .out) ≡ length (now (c .before .before .before .before .before .before .before .before .before .before .before .before .args .out))
-long c = laws.front-length (frames (c .before .before .before .before .before .before .before .before .loop .i) (c .before .before .before .before .before .before .before .before .before .before .before .before .args .u)) (now (c .before .before .before .before .before .before .before .before .before .before .before .before .args .out)) ((c .before .before .before .before .before .before .before .before .loop .inv) .3) (omega (arith, room c)) ((c .before .before .before .before .before .before .before .before .loop .inv) .4)
+due : (c : tie.After-struct-told2 Inv-loop μ-loop) → (c .before .before .before .before .before .before .before .before .before .loop .output) + (c .before .before .before .before .before .before .before .up-to-frame .result) ≡ 480
+due c = omega (arith, (c .before .before .before .before .before .before .before .up-to-frame .ensures) .1, (c .before .before .before .before .if1 .left))
 
-stored : (c : tie.After-struct-told2 Inv-loop μ-loop) → set (set (c .before .before .before .before .before .before .before .before .loop .out) (c .before .before .before .before .before .before .before .before .loop .at) (toZ w16 (ofZ w16 ((c .before .before .sample .result .left))))) ((c .before .before .before .before .before .before .before .before .loop .at) + 1) (toZ w16 (ofZ w16 ((c .before .before .sample .result .right)))) ≡ set (set (c .before .before .before .before .before .before .before .before .loop .out) (c .before .before .before .before .before .before .before .before .loop .at) ((c .before .before .sample .result .left))) ((c .before .before .before .before .before .before .before .before .loop .at) + 1) ((c .before .before .sample .result .right))
+room : (c : tie.After-struct-told2 Inv-loop μ-loop) → (c .before .before .before .before .before .before .before .before .before .loop .at) + 1 < length (now (c .before .before .before .before .before .before .before .before .before .before .before .before .before .args .out))
+room c = laws.front-room (c .before .before .before .before .before .before .before .before .before .before .before .before .before .args .u) (c .before .before .before .before .before .before .before .before .before .before .before .before .before .pre .0) (c .before .before .before .before .before .before .before .before .before .loop .i) (c .before .before .before .before .before .before .before .before .before .before .before .before .before .args .n) (length (now (c .before .before .before .before .before .before .before .before .before .before .before .before .before .args .out))) (c .before .before .before .before .before .before .before .before .before .before .before .before .before .pre .1) ((c .before .before .before .before .before .before .before .before .before .loop .inv) .3) (c .before .before .before .before .before .before .before .up-to-frame .result) (omega (arith, (c .before .before .before .before .before .before .before .up-to-frame .ensures) .0)) ((c .before .before .before .before .before .before .before .before .before .loop .inv) .2) (due c)
+
+long : (c : tie.After-struct-told2 Inv-loop μ-loop) → length (c .before .before .before .before .before .before .before .before .before .loop .out) ≡ length (now (c .before .before .before .before .before .before .before .before .before .before .before .before .before .args .out))
+long c = laws.front-length (frames (c .before .before .before .before .before .before .before .before .before .loop .i) (c .before .before .before .before .before .before .before .before .before .before .before .before .before .args .u)) (now (c .before .before .before .before .before .before .before .before .before .before .before .before .before .args .out)) ((c .before .before .before .before .before .before .before .before .before .loop .inv) .3) (omega (arith, room c)) ((c .before .before .before .before .before .before .before .before .before .loop .inv) .4)
+
+stored : (c : tie.After-struct-told2 Inv-loop μ-loop) → set (set (c .before .before .before .before .before .before .before .before .before .loop .out) (c .before .before .before .before .before .before .before .before .before .loop .at) (toZ w16 (ofZ w16 (c .before .before .sample .result .left)))) ((c .before .before .before .before .before .before .before .before .before .loop .at) + 1) (toZ w16 (ofZ w16 (c .before .before .sample .result .right))) ≡ set (set (c .before .before .before .before .before .before .before .before .before .loop .out) (c .before .before .before .before .before .before .before .before .before .loop .at) (c .before .before .sample .result .left)) ((c .before .before .before .before .before .before .before .before .before .loop .at) + 1) (c .before .before .sample .result .right)
 stored c =
-    let l : toZ w16 (ofZ w16 ((c .before .before .sample .result .left))) ≡ (c .before .before .sample .result .left) = search needs in
-    let r : toZ w16 (ofZ w16 ((c .before .before .sample .result .right))) ≡ (c .before .before .sample .result .right) = search needs in
-    ap₂ (λ (x y : ℤ). set (set (c .before .before .before .before .before .before .before .before .loop .out) (c .before .before .before .before .before .before .before .before .loop .at) x) ((c .before .before .before .before .before .before .before .before .loop .at) + 1) y) l r
+    let l : toZ w16 (ofZ w16 (c .before .before .sample .result .left)) ≡ c .before .before .sample .result .left = search needs in
+    let r : toZ w16 (ofZ w16 (c .before .before .sample .result .right)) ≡ c .before .before .sample .result .right = search needs in
+    ap₂ (λ (x y : ℤ). set (set (c .before .before .before .before .before .before .before .before .before .loop .out) (c .before .before .before .before .before .before .before .before .before .loop .at) x) ((c .before .before .before .before .before .before .before .before .before .loop .at) + 1) y) l r
 
-bytes : (c : tie.After-struct-told2 Inv-loop μ-loop) → length (now (c .before .before .before .before .before .before .before .before .before .before .before .before .args .out)) * 2 < 2 ^ 63
-bytes c = (c .before .before .before .before .before .before .before .before .before .before .before .before .good .1 .1 .0 .1)
+bytes : (c : tie.After-struct-told2 Inv-loop μ-loop) → length (now (c .before .before .before .before .before .before .before .before .before .before .before .before .before .args .out)) * 2 < 2 ^ 63
+bytes c = c .before .before .before .before .before .before .before .before .before .before .before .before .before .good .1 .1 .0 .1
 
 mul-l : tie.Need-mul-l Inv-loop μ-loop
 mul-l c = omega (arith, room c, bytes c)
@@ -88,18 +105,24 @@ add-at : tie.Need-add-at Inv-loop μ-loop
 add-at c = omega (arith, room c, bytes c)
 
 loop-less-2 : tie.Need-loop-less-2 Inv-loop μ-loop
-loop-less-2 c = search needs
+loop-less-2 c = omega (arith, (c .before .before .before .before .before .before .before .up-to-frame .ensures) .0, some c)
+
+voices-then : (c : tie.After-struct-told2 Inv-loop μ-loop) → (c .before .before .before .before .before .cycles .result) ≡ run ((c .before .before .before .before .before .before .before .before .before .loop .i) + (c .before .before .before .before .before .before .before .up-to-frame .result)) (c .before .before .before .before .before .before .before .before .before .before .before .before .before .args .u) .voices
+voices-then c = laws.next-voices (c .before .before .before .before .before .before .before .before .before .loop .i) (c .before .before .before .before .before .before .before .up-to-frame .result) (c .before .before .before .before .before .before .before .before .before .before .before .before .before .args .u) ((c .before .before .before .before .before .before .before .before .before .loop .inv) .1) (c .before .before .before .before .before .cycles .ensures)
+
+made-then : (c : tie.After-struct-told2 Inv-loop μ-loop) → frames (c .before .before .before .before .before .before .before .before .before .loop .i) (c .before .before .before .before .before .before .before .before .before .before .before .before .before .args .u) ++ c .before .before .sample .result ∷ [] ≡ frames ((c .before .before .before .before .before .before .before .before .before .loop .i) + (c .before .before .before .before .before .before .before .up-to-frame .result)) (c .before .before .before .before .before .before .before .before .before .before .before .before .before .args .u)
+made-then c = laws.one-made (c .before .before .before .before .before .before .before .before .before .loop .i) (c .before .before .before .before .before .before .before .up-to-frame .result) (c .before .before .before .before .before .before .before .before .before .before .before .before .before .args .u) ((c .before .before .before .before .before .before .before .before .before .loop .inv) .2) (some c) (due c) (voices-then c) (c .before .before .sample .ensures)
 
 loop-again-2 : tie.Need-loop-again-2 Inv-loop μ-loop
-loop-again-2 c = (search needs, laws.next-voices (c .before .before .before .before .before .before .before .before .loop .i) (c .before .before .before .before .before .before .before .before .before .before .before .before .args .u) ((c .before .before .before .before .before .before .before .before .loop .inv) .1) (c .before .before .before .before .before .cycle .ensures), laws.next-frame (c .before .before .before .before .before .before .before .before .loop .i) _ ((c .before .before .before .before .before .before .before .before .loop .inv) .2) (c .before .before .before .before .if1 .left), laws.front-next (frames (c .before .before .before .before .before .before .before .before .loop .i) (c .before .before .before .before .before .before .before .before .before .before .before .before .args .u)) (c .before .before .sample .result) (now (c .before .before .before .before .before .before .before .before .before .before .before .before .args .out)) ((c .before .before .before .before .before .before .before .before .loop .inv) .3) ∙ ap (λ (fs : List Frame). length (sides fs)) (laws.one-made (c .before .before .before .before .before .before .before .before .loop .i) (c .before .before .before .before .before .before .before .before .before .before .before .before .args .u) ((c .before .before .before .before .before .before .before .before .loop .inv) .2) (c .before .before .before .before .if1 .left) (laws.next-voices (c .before .before .before .before .before .before .before .before .loop .i) (c .before .before .before .before .before .before .before .before .before .before .before .before .args .u) ((c .before .before .before .before .before .before .before .before .loop .inv) .1) (c .before .before .before .before .before .cycle .ensures)) (c .before .before .sample .ensures)), stored c ∙ laws.front-more (frames (c .before .before .before .before .before .before .before .before .loop .i) (c .before .before .before .before .before .before .before .before .before .before .before .before .args .u)) (c .before .before .sample .result) (now (c .before .before .before .before .before .before .before .before .before .before .before .before .args .out)) ((c .before .before .before .before .before .before .before .before .loop .inv) .3) (room c) ((c .before .before .before .before .before .before .before .before .loop .inv) .4) ∙ ap (λ (fs : List Frame). sides fs ++ drop ((c .before .before .before .before .before .before .before .before .loop .at) + 2) (now (c .before .before .before .before .before .before .before .before .before .before .before .before .args .out))) (laws.one-made (c .before .before .before .before .before .before .before .before .loop .i) (c .before .before .before .before .before .before .before .before .before .before .before .before .args .u) ((c .before .before .before .before .before .before .before .before .loop .inv) .2) (c .before .before .before .before .if1 .left) (laws.next-voices (c .before .before .before .before .before .before .before .before .loop .i) (c .before .before .before .before .before .before .before .before .before .before .before .before .args .u) ((c .before .before .before .before .before .before .before .before .loop .inv) .1) (c .before .before .before .before .before .cycle .ensures)) (c .before .before .sample .ensures)))
+loop-again-2 c = (omega (arith, (c .before .before .before .before .before .before .before .up-to-frame .ensures) .0), voices-then c, laws.next-frame (c .before .before .before .before .before .before .before .before .before .loop .i) (c .before .before .before .before .before .before .before .up-to-frame .result) (c .before .before .before .before .before .before .before .before .before .before .before .before .before .args .u) ((c .before .before .before .before .before .before .before .before .before .loop .inv) .2) (some c) (due c), laws.front-next (frames (c .before .before .before .before .before .before .before .before .before .loop .i) (c .before .before .before .before .before .before .before .before .before .before .before .before .before .args .u)) (c .before .before .sample .result) (now (c .before .before .before .before .before .before .before .before .before .before .before .before .before .args .out)) ((c .before .before .before .before .before .before .before .before .before .loop .inv) .3) ∙ ap (λ (fs : List Frame). length (sides fs)) (made-then c), stored c ∙ laws.front-more (frames (c .before .before .before .before .before .before .before .before .before .loop .i) (c .before .before .before .before .before .before .before .before .before .before .before .before .before .args .u)) (c .before .before .sample .result) (now (c .before .before .before .before .before .before .before .before .before .before .before .before .before .args .out)) ((c .before .before .before .before .before .before .before .before .before .loop .inv) .3) (room c) ((c .before .before .before .before .before .before .before .before .before .loop .inv) .4) ∙ ap (λ (fs : List Frame). sides fs ++ drop ((c .before .before .before .before .before .before .before .before .before .loop .at) + 2) (now (c .before .before .before .before .before .before .before .before .before .before .before .before .before .args .out))) (made-then c))
 
 same-length : tie.Need-same-length Inv-loop μ-loop
-same-length c = laws.front-length (frames (c .before .loop .i) (c .before .before .before .before .before .args .u)) (now (c .before .before .before .before .before .args .out)) ((c .before .loop .inv) .3) (laws.front-within (c .before .before .before .before .before .args .u) ((c .before .before .before .before .before .pre .0)) (c .before .loop .i) (c .before .before .before .before .before .args .n) (length (now (c .before .before .before .before .before .args .out))) ((c .before .before .before .before .before .pre .1)) ((c .before .loop .inv) .3) ((c .before .loop .inv) .0)) ((c .before .loop .inv) .4)
+same-length c = laws.front-length (frames (c .before .loop .i) (c .before .before .before .before .before .args .u)) (now (c .before .before .before .before .before .args .out)) ((c .before .loop .inv) .3) (laws.front-within (c .before .before .before .before .before .args .u) (c .before .before .before .before .before .pre .0) (c .before .loop .i) (c .before .before .before .before .before .args .n) (length (now (c .before .before .before .before .before .args .out))) (c .before .before .before .before .before .pre .1) ((c .before .loop .inv) .3) ((c .before .loop .inv) .0)) ((c .before .loop .inv) .4)
 
 returns : tie.Need-returns Inv-loop μ-loop
 returns c = let all : (c .before .loop .i) ≡ (c .before .before .before .before .before .args .n) = omega arith in (
   laws.run-is (c .before .loop .i) (c .before .before .before .before .before .args .u) ((c .before .loop .inv) .1) ((c .before .loop .inv) .2) ∙ ap (λ (k : ℕ). run k (c .before .before .before .before .before .args .u)) all,
-  ((c .before .loop .inv) .4) ∙ ap (λ (k : ℕ). sides (frames (c .before .loop .i) (c .before .before .before .before .before .args .u)) ++ drop k (now (c .before .before .before .before .before .args .out))) (laws.front-at (c .before .before .before .before .before .args .u) ((c .before .before .before .before .before .pre .0)) (c .before .loop .i) ((c .before .loop .inv) .3)) ∙ ap (λ (k : ℕ). sides (frames k (c .before .before .before .before .before .args .u)) ++ drop (framesDue (c .before .before .before .before .before .args .u) k * 2) (now (c .before .before .before .before .before .args .out))) all,
+  ((c .before .loop .inv) .4) ∙ ap (λ (k : ℕ). sides (frames (c .before .loop .i) (c .before .before .before .before .before .args .u)) ++ drop k (now (c .before .before .before .before .before .args .out))) (laws.front-at (c .before .before .before .before .before .args .u) (c .before .before .before .before .before .pre .0) (c .before .loop .i) ((c .before .loop .inv) .3)) ∙ ap (λ (k : ℕ). sides (frames k (c .before .before .before .before .before .args .u)) ++ drop (framesDue (c .before .before .before .before .before .args .u) k * 2) (now (c .before .before .before .before .before .args .out))) all,
 )
 
 pub step-spec : {M : Type 1} → statement M
@@ -109,9 +132,11 @@ step-spec =
     Inv-loop
     μ-loop
     loop-holds
-    cycle-requires
+    sub-up-to-frame
+    up-to-frame-requires
+    cycles-requires
     add-i
-    sub-if1
+    add-if1
     add-output
     loop-less
     loop-again
