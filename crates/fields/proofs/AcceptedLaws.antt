@@ -11,18 +11,18 @@ use lib.IntN.{ℤ}
 use lib.ListN.{getD, take, drop, length, length-drop, length-map}
 use lib.Seq.{getD-drop, getD-take, length-take-le, take-add, take-all}
 use lib.Signed.{mag}
-use Rattle.laws.proofs.Cases.{both, each, neither, ways}
+use Rattle.laws.proofs.Cases.{both, each, ways}
 use Rattle.common.specs.Bits.{signed}
 use Rattle.voice.specs.ChannelEnum.{isTap}
 use Rattle.voice.specs.declared.channel_enum.Voice.{Voice}
 use Rattle.vsu.proofs.RangeLaws.{range-test}
 use Rattle.vsu.specs.Core.{allAtMost, allBytes, inRange}
-use Rattle.table.proofs.TableLaws.{at, below}
-use Rattle.table.specs.Table.{brokenBy, cellAt, faultyAt, fieldFaulty, mostIn, newest, noCell, noise, ownOf, partIn, partOf, rowIn, sweep, wave}
+use Rattle.table.proofs.TableLaws.{at, at-most, below, exactly, own-kept}
+use Rattle.table.specs.Table.{brokenBy, cellAt, faultyAt, mostIn, newest, noCell, noise, ownOf, partIn, partOf, rowIn, wave}
 use Rattle.table.specs.declared.Cell.{Cell}
 use Rattle.table.specs.declared.Own.the-variants.{Exactly}
 use Rattle.fields.specs.Fields.{blocksOf, byte, byteOf, entryBy, fieldsOf, from, headerFields, noiseBy, stateOf, sweptBy, tailFields, voiceFields, voicesBy, waveBy}
-use Rattle.fields.proofs.BlockLaws.{Bounded, byte-same, noise-again, noise-range, swept-again, swept-range, tab, tail-again, wave-again, wave-range, window}
+use Rattle.fields.proofs.BlockLaws.{Bounded, byte-same, noise-again, noise-range, swept-again, swept-range, tab, tail-again, tailCells, wave-again, wave-range, window}
 
 -- largest values of a list, one by one
 
@@ -82,20 +82,18 @@ none-then t = refl
 abbrev mostFrom : ℕ → List Cell → ℕ → Bool
 mostFrom at cells j = eqb (newest .rows (at + j) .most) (mostIn (getD cells j noCell))
 
-module _ (f : List ℕ) (n : length f ≡ 325) (s : (i : ℕ) → i < 325 → faultyAt newest f i ≡ false) where
-  pub most-at : (i : ℕ) → i < 325 → getD f i 0 ≤ newest .rows i .most
-  unfolding fieldFaulty
-  most-at i h = ltb-false _ _ (neither (ltb (newest .rows i .most) (getD f i 0)) (brokenBy (newest .rows i .own) (newest .rows i .most) (getD f 311 0) (getD f i 0)) (s i h) .0)
+module _ (f : List ℕ) (n : length f ≡ 326) (s : (i : ℕ) → i < 326 → faultyAt newest f i ≡ false) where
+  pub most-at : (i : ℕ) → i < 326 → getD f i 0 ≤ newest .rows i .most
+  most-at i h = at-most (getD f 311 0) (newest .rows i) (getD f i 0) (s i h)
 
-  own-at : (i : ℕ) → i < 325 → brokenBy (newest .rows i .own) (newest .rows i .most) (getD f 311 0) (getD f i 0) ≡ false
-  unfolding fieldFaulty
-  own-at i h = neither (ltb (newest .rows i .most) (getD f i 0)) (brokenBy (newest .rows i .own) (newest .rows i .most) (getD f 311 0) (getD f i 0)) (s i h) .1
+  own-at : (i : ℕ) → i < 326 → brokenBy (newest .rows i .own) (newest .rows i .most) (getD f 311 0) (getD f i 0) ≡ false
+  own-at i h = own-kept (getD f 311 0) (newest .rows i) (getD f i 0) (s i h)
 
-  bounds : (at₀ count : ℕ) (cells : List Cell) → at₀ + count ≤ 325 → below (mostFrom at₀ cells) count ≡ true → Bounded (from f at₀) cells count
+  bounds : (at₀ count : ℕ) (cells : List Cell) → at₀ + count ≤ 326 → below (mostFrom at₀ cells) count ≡ true → Bounded (from f at₀) cells count
   bounds at₀ count cells h t j l = le-trans (most-at (at₀ + j) (omega arith)) (le-of-eq (eqb-true _ _ (at (mostFrom at₀ cells) count j t l)))
 
   -- a run of fields whose largest value is the same
-  run-most : (at₀ count most : ℕ) → at₀ + count ≤ 325 → below (λ j. leb (newest .rows (at₀ + j) .most) most) count ≡ true → allAtMost most (take count (drop at₀ f)) ≡ true
+  run-most : (at₀ count most : ℕ) → at₀ + count ≤ 326 → below (λ j. leb (newest .rows (at₀ + j) .most) most) count ≡ true → allAtMost most (take count (drop at₀ f)) ≡ true
   run-most at₀ count most h t =
       all-most most (take count (drop at₀ f))
       (λ i g.
@@ -128,9 +126,9 @@ module _ (f : List ℕ) (n : length f ≡ 325) (s : (i : ℕ) → i < 325 → fa
     unfolding rowIn partOf partIn cellAt
     noise-5 = bounds 294 19 noise (omega arith) refl
 
-    tail : Bounded (from f 313) sweep 12
+    tail : Bounded (from f 313) tailCells 13
     unfolding rowIn partOf partIn cellAt
-    tail = bounds 313 12 sweep (omega arith) refl
+    tail = bounds 313 13 tailCells (omega arith) refl
 
     samples : allAtMost 63 (take 160 (drop 7 f)) ≡ true
     unfolding rowIn partOf partIn cellAt
@@ -170,43 +168,41 @@ module _ (f : List ℕ) (n : length f ≡ 325) (s : (i : ℕ) → i < 325 → fa
         entries = length-map (take 32 (drop 167 f)) entryBy ∙ length-take-le 32 (drop 167 f) (omega (arith, length-drop 167 f, n));
         bytes = entries-most (take 32 (drop 167 f));
         output = tail 10 (omega arith);
+        mutes = le-trans (mod-le (from f 313 11) 256) (tail 11 (omega arith));
       })
 
   -- the header's numbers
-  exactly : (i : ℕ) → i < 325 → newest .rows i .own ≡ Exactly → getD f i 0 ≡ newest .rows i .most
-  unfolding brokenBy
-  exactly i h e =
-      let a : newest .rows i .most ≤ getD f i 0 = ltb-false (getD f i 0) (newest .rows i .most) (rw e at (own-at i h)) in
-      omega (arith, most-at i h)
+  exact-at : (i : ℕ) → i < 326 → newest .rows i .own ≡ Exactly → getD f i 0 ≡ newest .rows i .most
+  exact-at i h e = exactly (getD f 311 0) (newest .rows i) (getD f i 0) e (s i h)
 
   header-again : headerFields newest ≡ tab 7 (from f 0)
   unfolding rowIn partOf partIn cellAt ownOf
   header-again =
-      rw (exactly 0 (omega arith) refl, exactly 1 (omega arith) refl, exactly 2 (omega arith) refl, exactly 3 (omega arith) refl, exactly 4 (omega arith) refl, exactly 5 (omega arith) refl, exactly 6 (omega arith) refl)
+      rw (exact-at 0 (omega arith) refl, exact-at 1 (omega arith) refl, exact-at 2 (omega arith) refl, exact-at 3 (omega arith) refl, exact-at 4 (omega arith) refl, exact-at 5 (omega arith) refl, exact-at 6 (omega arith) refl)
 
   -- the values of the state that values make are those values
 
   joined : (a m : ℕ) (rest : List ℕ) {k : ℕ} → a + m ≡ k → take a f ++ (take m (drop a f) ++ rest) ≡ take k f ++ rest
   joined a m rest e = rw (← e, take-add a m f, append-assoc (take a f) (take m (drop a f)) rest)
 
-  block : (at₀ m : ℕ) {xs : List ℕ} → at₀ + m ≤ 325 → xs ≡ tab m (from f at₀) → xs ≡ take m (drop at₀ f)
+  block : (at₀ m : ℕ) {xs : List ℕ} → at₀ + m ≤ 326 → xs ≡ tab m (from f at₀) → xs ≡ take m (drop at₀ f)
   block at₀ m h e = e ∙ sym (window m at₀ f (omega (arith, n)))
 
-  tail-same : tailFields (sweptBy (from f 275) (from f 313) .kind) (getD f 323 0) ≡ tab 12 (from f 313)
+  tail-same : tailFields (sweptBy (from f 275) (from f 313) .kind) (getD f 323 0) (byte (getD f 324 0)) ≡ tab 13 (from f 313)
   unfolding sweptBy
-  tail-same = tail-again (byte (from f 275 9)) (byte (from f 275 10)) (getD f 323 0) (from f 313) tail refl
+  tail-same = tail-again (byte (from f 275 9)) (byte (from f 275 10)) (from f 313) tail
 
   abbrev rest : List ℕ
   rest =
-      take 160 (drop 7 f) ++ (take 32 (drop 167 f) ++ (take 19 (drop 199 f) ++ (take 19 (drop 218 f) ++ (take 19 (drop 237 f) ++ (take 19 (drop 256 f) ++ (take 19 (drop 275 f) ++ (take 19 (drop 294 f) ++ take 12 (drop 313 f))))))))
+      take 160 (drop 7 f) ++ (take 32 (drop 167 f) ++ (take 19 (drop 199 f) ++ (take 19 (drop 218 f) ++ (take 19 (drop 237 f) ++ (take 19 (drop 256 f) ++ (take 19 (drop 275 f) ++ (take 19 (drop 294 f) ++ take 13 (drop 313 f))))))))
 
   assembled : take 7 f ++ rest ≡ f
   assembled =
-      joined 7 160 _ refl ∙ joined 167 32 _ refl ∙ joined 199 19 _ refl ∙ joined 218 19 _ refl ∙ joined 237 19 _ refl ∙ joined 256 19 _ refl ∙ joined 275 19 _ refl ∙ joined 294 19 _ refl ∙ sym (take-add 313 12 f) ∙ take-all 325 f (omega (arith, n))
+      joined 7 160 _ refl ∙ joined 167 32 _ refl ∙ joined 199 19 _ refl ∙ joined 218 19 _ refl ∙ joined 237 19 _ refl ∙ joined 256 19 _ refl ∙ joined 275 19 _ refl ∙ joined 294 19 _ refl ∙ sym (take-add 313 13 f) ∙ take-all 326 f (omega (arith, n))
 
   pub fields-again : fieldsOf newest (stateOf f) ≡ f
   unfolding fieldsOf stateOf voicesBy
   fields-again =
       rw
-      (block-then (waveBy (from f 199)) (waveBy (from f 218) ∷ waveBy (from f 237) ∷ waveBy (from f 256) ∷ sweptBy (from f 275) (from f 313) ∷ noiseBy (from f 294) ∷ []), block-then (waveBy (from f 218)) (waveBy (from f 237) ∷ waveBy (from f 256) ∷ sweptBy (from f 275) (from f 313) ∷ noiseBy (from f 294) ∷ []), block-then (waveBy (from f 237)) (waveBy (from f 256) ∷ sweptBy (from f 275) (from f 313) ∷ noiseBy (from f 294) ∷ []), block-then (waveBy (from f 256)) (sweptBy (from f 275) (from f 313) ∷ noiseBy (from f 294) ∷ []), block-then (sweptBy (from f 275) (from f 313)) (noiseBy (from f 294) ∷ []), block-then (noiseBy (from f 294)) [], none-then, samples-again (take 160 (drop 7 f)) samples, entries-again (take 32 (drop 167 f)) entries, block 199 19 (omega arith) (wave-again (from f 199) wave-0), block 218 19 (omega arith) (wave-again (from f 218) wave-1), block 237 19 (omega arith) (wave-again (from f 237) wave-2), block 256 19 (omega arith) (wave-again (from f 256) wave-3), block 275 19 (omega arith) (swept-again (from f 275) (from f 313) swept-4), block 294 19 (omega arith) (noise-again (from f 294) noise-5), block 313 12 (omega arith) tail-same)
+      (block-then (waveBy (from f 199)) (waveBy (from f 218) ∷ waveBy (from f 237) ∷ waveBy (from f 256) ∷ sweptBy (from f 275) (from f 313) ∷ noiseBy (from f 294) ∷ []), block-then (waveBy (from f 218)) (waveBy (from f 237) ∷ waveBy (from f 256) ∷ sweptBy (from f 275) (from f 313) ∷ noiseBy (from f 294) ∷ []), block-then (waveBy (from f 237)) (waveBy (from f 256) ∷ sweptBy (from f 275) (from f 313) ∷ noiseBy (from f 294) ∷ []), block-then (waveBy (from f 256)) (sweptBy (from f 275) (from f 313) ∷ noiseBy (from f 294) ∷ []), block-then (sweptBy (from f 275) (from f 313)) (noiseBy (from f 294) ∷ []), block-then (noiseBy (from f 294)) [], none-then, samples-again (take 160 (drop 7 f)) samples, entries-again (take 32 (drop 167 f)) entries, block 199 19 (omega arith) (wave-again (from f 199) wave-0), block 218 19 (omega arith) (wave-again (from f 218) wave-1), block 237 19 (omega arith) (wave-again (from f 237) wave-2), block 256 19 (omega arith) (wave-again (from f 256) wave-3), block 275 19 (omega arith) (swept-again (from f 275) (from f 313) swept-4), block 294 19 (omega arith) (noise-again (from f 294) noise-5), block 313 13 (omega arith) tail-same)
       (ap (λ (h : List ℕ). h ++ rest) (block 0 7 (omega arith) header-again) ∙ assembled)

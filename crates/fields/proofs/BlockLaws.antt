@@ -19,7 +19,7 @@ use Rattle.voice.specs.declared.channel_enum.Kind.{Kind}
 use Rattle.voice.specs.declared.channel_enum.Kind.the-variants.{Wave, Swept, Noise}
 use Rattle.sweep.specs.declared.sweep_modulate.SweepModulate.{SweepModulate}
 use Rattle.table.proofs.TableLaws.{at}
-use Rattle.table.specs.Table.{brokenBy, channel, mostIn, noCell, noise, sweep, wave}
+use Rattle.table.specs.Table.{brokenBy, channel, mostIn, mutes, noCell, noise, sweep, wave}
 use Rattle.table.specs.declared.Cell.{Cell}
 use Rattle.table.specs.declared.Own.{Own}
 use Rattle.table.specs.declared.Own.the-variants.{None, Tap, LowestBit}
@@ -174,9 +174,9 @@ module _ (c : Channel) (k : Kind) (rest : List ℕ) (most : ℕ) (h : channelInR
   unfolding sweptBy voiceFields ninthOf tenthOf
   swept-back bank position s v b p e d = rw (channel-back, d, e, byte-same bank b, byte-same position p)
 
-pub sweep-back : (bank position : ℕ) (s : SweepModulate) (output : ℕ) (rest : List ℕ) → sweepInRange s ≡ true → sweepBy (λ j. getD (tailFields (Swept bank position s) output ++ rest) j 0) ≡ s
+pub sweep-back : (bank position : ℕ) (s : SweepModulate) (output mutes : ℕ) (rest : List ℕ) → sweepInRange s ≡ true → sweepBy (λ j. getD (tailFields (Swept bank position s) output mutes ++ rest) j 0) ≡ s
 unfolding sweepBy tailFields sweepInRange
-sweep-back bank position s output rest h =
+sweep-back bank position s output mutes rest h =
     each (leb (s .step) 153608) (leb (s .last) 2047 ∷ leb (s .current) 2047 ∷ leb (s .next) 2047 ∷ leb (s .interval) 7 ∷ leb (s .shift) 7 ∷ leb (s .counter) 6 ∷ leb (s .index) 31 ∷ []) h
     (λ g.
     rw
@@ -290,16 +290,20 @@ module _ (shift : ℕ) (c : Channel) where
       output-kept true p = let e : shift % 2 ≡ 1 = eqb-true _ _ (beq-true (eqb (shift % 2) 1) p) in rw e
       output-kept false p = let e : shift % 2 ≡ 0 = omega (arith, eqb-false (shift % 2) 1 (beq-false (eqb (shift % 2) 1) p)) in rw e
 
--- the values of the sweep and of the output counter, in range
-pub keep-tail : (shift : ℕ) (c : Channel) (k : Kind) (output : ℕ) → sweptInRange (voiceOf c k) ≡ true → output ≤ 479 → keep shift (plainly sweep) (tailFields k output) ≡ true
+-- what follows the channels: the sweep with the output counter, then the mutes
+abbrev pub tailCells : List Cell
+tailCells = sweep ++ mutes
+
+-- their values, in range
+pub keep-tail : (shift : ℕ) (c : Channel) (k : Kind) (output muted : ℕ) → sweptInRange (voiceOf c k) ≡ true → output ≤ 479 → muted ≤ 63 → keep shift (plainly tailCells) (tailFields k output muted) ≡ true
 unfolding sweptInRange sweptKindInRange sweepInRange tailFields brokenBy
-keep-tail shift c (Wave bank position) output h l = no-kind shift c 3 h
-keep-tail shift c (Swept bank position s) output h l =
+keep-tail shift c (Wave bank position) output muted h l m = no-kind shift c 3 h
+keep-tail shift c (Swept bank position s) output muted h l m =
     each (channelInRange 3 c) ((leb bank 7 && leb position 31 && sweepInRange s) ∷ []) h
     (λ r. each (leb bank 7) (leb position 31 ∷ sweepInRange s ∷ []) (r .1 .0)
     (λ b. each (leb (s .step) 153608) (leb (s .last) 2047 ∷ leb (s .current) 2047 ∷ leb (s .next) 2047 ∷ leb (s .interval) 7 ∷ leb (s .shift) 7 ∷ leb (s .counter) 6 ∷ leb (s .index) 31 ∷ []) (b .1 .1 .0)
-    (λ g. rw (le-ltb 31 _ (flags-most (s .enable) (s .looped) (s .modulate) (s .slow) (s .up)), le-ltb 7 _ (leb-true _ _ (g .1 .1 .1 .1 .0)), le-ltb 7 _ (leb-true _ _ (g .1 .1 .1 .1 .1 .0)), le-ltb 6 _ (leb-true _ _ (g .1 .1 .1 .1 .1 .1 .0)), le-ltb 153608 _ (leb-true _ _ (g .0)), le-ltb 31 _ (leb-true _ _ (g .1 .1 .1 .1 .1 .1 .1 .0)), le-ltb 2047 _ (leb-true _ _ (g .1 .0)), le-ltb 2047 _ (leb-true _ _ (g .1 .1 .0)), le-ltb 2047 _ (leb-true _ _ (g .1 .1 .1 .0)), le-ltb 479 _ l))))
-keep-tail shift c (Noise s tap output·bit) output h l = no-kind shift c 3 h
+    (λ g. rw (le-ltb 31 _ (flags-most (s .enable) (s .looped) (s .modulate) (s .slow) (s .up)), le-ltb 7 _ (leb-true _ _ (g .1 .1 .1 .1 .0)), le-ltb 7 _ (leb-true _ _ (g .1 .1 .1 .1 .1 .0)), le-ltb 6 _ (leb-true _ _ (g .1 .1 .1 .1 .1 .1 .0)), le-ltb 153608 _ (leb-true _ _ (g .0)), le-ltb 31 _ (leb-true _ _ (g .1 .1 .1 .1 .1 .1 .1 .0)), le-ltb 2047 _ (leb-true _ _ (g .1 .0)), le-ltb 2047 _ (leb-true _ _ (g .1 .1 .0)), le-ltb 2047 _ (leb-true _ _ (g .1 .1 .1 .0)), le-ltb 479 _ l, le-ltb 63 _ m))))
+keep-tail shift c (Noise s tap output·bit) output muted h l m = no-kind shift c 3 h
 
 -- the voice of values that keep their largest values is in range
 
@@ -325,7 +329,7 @@ unfolding waveInRange waveKindInRange waveBy
 wave-range v h =
     both (channel-range v 7 31 3 0 h) (both (le-leb _ _ (cut-le _ _ (h 9 (omega arith)))) (le-leb _ _ (cut-le _ _ (h 10 (omega arith)))))
 
-pub swept-range : (v s : ℕ → ℕ) → Bounded v wave 19 → Bounded s sweep 12 → sweptInRange (sweptBy v s) ≡ true
+pub swept-range : (v s : ℕ → ℕ) → Bounded v wave 19 → Bounded s tailCells 13 → sweptInRange (sweptBy v s) ≡ true
 unfolding sweptInRange sweptKindInRange sweptBy sweepInRange sweepBy
 swept-range v s h g =
     both (channel-range v 7 31 3 0 h)
@@ -383,12 +387,12 @@ noise-again v h =
     bit-again : (x : ℕ) → x ≤ 1 → bitOf (eqb x 1) ≡ x
     bit-again x l = eqb-true _ _ (at (λ (x : ℕ). eqb (bitOf (eqb x 1)) x) 2 x refl (omega arith))
 
-pub tail-again : (bank position output : ℕ) (v : ℕ → ℕ) → Bounded v sweep 12 → output ≡ v 10 → tailFields (Swept bank position (sweepBy v)) output ≡ tab 12 v
+pub tail-again : (bank position : ℕ) (v : ℕ → ℕ) → Bounded v tailCells 13 → tailFields (Swept bank position (sweepBy v)) (v 10) (byte (v 11)) ≡ tab 13 v
 unfolding tailFields sweepBy
-tail-again bank position output v h e =
+tail-again bank position v h =
     let a : v 6 ≡ 0 = omega (arith, h 6 (omega arith)) in
-    let d : v 11 ≡ 0 = omega (arith, h 11 (omega arith)) in
-    rw (byte-same (v 0) (omega (arith, h 0 (omega arith))), packed (v 0) (h 0 (omega arith)), byte-same (v 1) (omega (arith, h 1 (omega arith))), byte-same (v 2) (omega (arith, h 2 (omega arith))), byte-same (v 3) (omega (arith, h 3 (omega arith))), byte-same (v 5) (omega (arith, h 5 (omega arith))), half-same (v 7) (omega (arith, h 7 (omega arith))), half-same (v 8) (omega (arith, h 8 (omega arith))), half-same (v 9) (omega (arith, h 9 (omega arith))), a, d, e)
+    let d : v 12 ≡ 0 = omega (arith, h 12 (omega arith)) in
+    rw (byte-same (v 0) (omega (arith, h 0 (omega arith))), packed (v 0) (h 0 (omega arith)), byte-same (v 1) (omega (arith, h 1 (omega arith))), byte-same (v 2) (omega (arith, h 2 (omega arith))), byte-same (v 3) (omega (arith, h 3 (omega arith))), byte-same (v 5) (omega (arith, h 5 (omega arith))), half-same (v 7) (omega (arith, h 7 (omega arith))), half-same (v 8) (omega (arith, h 8 (omega arith))), half-same (v 9) (omega (arith, h 9 (omega arith))), byte-same (v 11) (omega (arith, h 11 (omega arith))), a, d)
 
 tab-same : (n : ℕ) {v w : ℕ → ℕ} → ((j : ℕ) → v j ≡ w j) → tab n v ≡ tab n w
 tab-same zero h = refl

@@ -78,11 +78,11 @@ pub voice-fields : (v : Voice) {a b c d e f g h i j k m n o : ℕ} →
 unfolding voiceFields
 voice-fields v a b c d e f g h i j k m n o = rw (a, b, c, d, e, f, g, h, i, j, k, m, n, o)
 
-pub tail-swept : {kind : Kind} {bank position : ℕ} {s : SweepModulate} (output : ℕ) {a b c d e f g h : ℕ} → kind ≡ Swept bank position s →
+pub tail-swept : {kind : Kind} {bank position : ℕ} {s : SweepModulate} (output mutes : ℕ) {a b c d e f g h : ℕ} → kind ≡ Swept bank position s →
     a ≡ sweepFlags s → b ≡ s .interval → c ≡ s .shift → d ≡ s .counter → e ≡ s .index → f ≡ s .last → g ≡ s .current → h ≡ s .next →
-    a ∷ b ∷ c ∷ d ∷ s .step ∷ e ∷ 0 ∷ f ∷ g ∷ h ∷ output ∷ 0 ∷ [] ≡ tailFields kind output
+    a ∷ b ∷ c ∷ d ∷ s .step ∷ e ∷ 0 ∷ f ∷ g ∷ h ∷ output ∷ mutes ∷ 0 ∷ [] ≡ tailFields kind output mutes
 unfolding tailFields
-tail-swept output told a b c d e f g h = rw (told, a, b, c, d, e, f, g, h)
+tail-swept output mutes told a b c d e f g h = rw (told, a, b, c, d, e, f, g, h)
 
 -- the voices' fields, one after the other
 
@@ -214,8 +214,8 @@ pub voices-by : (f : List ℕ) {a b c d e g : Voice} →
 unfolding voicesBy
 voices-by f p q r s t u = rw (p, q, r, s, t, u)
 
-pub state-of : (f : List ℕ) {voices : List Voice} {waves : List ℕ} {modulation : List ℤ} →
-    voices ≡ voicesBy f → waves ≡ map byte (take 160 (drop 7 f)) → modulation ≡ map entryBy (take 32 (drop 167 f)) →
-    record { voices = voices; output = getD f 323 0; waves = waves; modulation = modulation } ≡ stateOf f
+pub state-of : (f : List ℕ) {voices : List Voice} {waves : List ℕ} {modulation : List ℤ} {mutes : ℕ} →
+    voices ≡ voicesBy f → waves ≡ map byte (take 160 (drop 7 f)) → modulation ≡ map entryBy (take 32 (drop 167 f)) → mutes ≡ byte (getD f 324 0) →
+    record { voices = voices; output = getD f 323 0; waves = waves; modulation = modulation; mutes = mutes } ≡ stateOf f
 unfolding stateOf
-state-of f v w m = rw (v, w, m)
+state-of f v w m q = rw (v, w, m, q)

@@ -2,3 +2,4 @@ pub mod FieldsLaws
 pub mod BlockLaws
 pub mod AcceptedLaws
 pub mod WrittenLaws
+pub mod EditionLaws

@@ -25,14 +25,13 @@ use Rattle.voice.specs.declared.channel_enum.Voice.{Voice}
 use Rattle.vsu.proofs.RangeLaws.{InRange}
 use Rattle.vsu.specs.Core.{allAtMost, allBytes, voiceAt}
 use Rattle.vsu.specs.declared.core.Vsu.{Vsu}
-use Rattle.table.proofs.TableLaws.{at, below}
-use Rattle.table.specs.Table.{brokenBy, cellAt, faultyAt, fieldFaulty, header, mostIn, newest, ownOf, partIn, partOf, rowIn, sweep}
+use Rattle.table.proofs.TableLaws.{at, below, code, same-own}
+use Rattle.table.specs.Table.{brokenBy, cellAt, faultyAt, fieldFaulty, number2, header, mostIn, newest, ownOf, partIn, partOf, rowIn}
 use Rattle.table.specs.declared.Cell.{Cell}
-use Rattle.table.specs.declared.Own.{Own}
-use Rattle.table.specs.declared.Own.the-variants.{None, Exactly, Tap, LowestBit}
+use Rattle.table.specs.declared.Own.the-variants.{None, Exactly}
 use Rattle.fields.specs.Fields.{blocksOf, byteOf, entryBy, fieldsOf, from, headerFields, noiseBy, shiftOf, stateOf, sweepBy, sweptBy, tailFields, voiceFields, voicesBy, waveBy}
 use Rattle.fields.proofs.AcceptedLaws.{block-then, most-at, none-then, samples-again}
-use Rattle.fields.proofs.BlockLaws.{Rule, byte-same, faultyIn, keep, keep-noise, keep-swept, keep-tail, keep-wave, kept-at, no-kind, noRule, noise-back, noiseRules, plainly, sweep-back, swept-back, tap-most, wave-back, waveRules}
+use Rattle.fields.proofs.BlockLaws.{Rule, byte-same, faultyIn, keep, keep-noise, keep-swept, keep-tail, keep-wave, kept-at, no-kind, noRule, noise-back, noiseRules, plainly, sweep-back, swept-back, tailCells, tap-most, wave-back, waveRules}
 use Rattle.fields.proofs.FieldsLaws.{blocks-length, sets-all}
 use Rattle.little.proofs.LittleLaws.{sets-append}
 
@@ -102,44 +101,26 @@ six-list (a ∷ b ∷ c ∷ d ∷ e ∷ g ∷ x ∷ xs) h = absurd (omega (arith
 -- the table's rules one after the other, and one test that the rows' are those
 
 abbrev headerRules : List Rule
-headerRules = map (λ (c : Cell). (mostIn c, Exactly)) header
+headerRules = map (λ (c : Cell). (mostIn c, Exactly)) (number2 ++ header)
 
 abbrev allRules : List Rule
 allRules =
-    headerRules ++ (replicate 160 (63, None) ++ (replicate 32 (255, None) ++ (waveRules ++ (waveRules ++ (waveRules ++ (waveRules ++ (waveRules ++ (noiseRules ++ plainly sweep))))))))
-
-abbrev code : Own → ℕ
-code None = 0
-code Exactly = 1
-code Tap = 2
-code LowestBit = 3
-
-abbrev coded : ℕ → Own
-coded zero = None
-coded (suc zero) = Exactly
-coded (suc (suc zero)) = Tap
-coded (suc (suc (suc n))) = LowestBit
-
-coded-code : (o : Own) → coded (code o) ≡ o
-coded-code None = refl
-coded-code Exactly = refl
-coded-code Tap = refl
-coded-code LowestBit = refl
+    headerRules ++ (replicate 160 (63, None) ++ (replicate 32 (255, None) ++ (waveRules ++ (waveRules ++ (waveRules ++ (waveRules ++ (waveRules ++ (noiseRules ++ plainly tailCells))))))))
 
 abbrev sameRule : ℕ → Bool
 sameRule i = eqb (newest .rows i .most) (getD allRules i noRule .0) && eqb (code (newest .rows i .own)) (code (getD allRules i noRule .1))
 
-every-rule : below sameRule 325 ≡ true
+every-rule : below sameRule 326 ≡ true
 unfolding rowIn partOf partIn cellAt ownOf
 every-rule = refl
 
-row-rule : (i shift x : ℕ) → i < 325 → fieldFaulty shift (newest .rows i) x ≡ faultyIn shift (getD allRules i noRule) x
+row-rule : (i shift x : ℕ) → i < 326 → fieldFaulty shift (newest .rows i) x ≡ faultyIn shift (getD allRules i noRule) x
 unfolding fieldFaulty
 row-rule i shift x h =
-    each (eqb (newest .rows i .most) (getD allRules i noRule .0)) (eqb (code (newest .rows i .own)) (code (getD allRules i noRule .1)) ∷ []) (at sameRule 325 i every-rule h)
+    each (eqb (newest .rows i .most) (getD allRules i noRule .0)) (eqb (code (newest .rows i .own)) (code (getD allRules i noRule .1)) ∷ []) (at sameRule 326 i every-rule h)
     (λ k.
     let m : newest .rows i .most ≡ getD allRules i noRule .0 = eqb-true _ _ (k .0) in
-    let o : newest .rows i .own ≡ getD allRules i noRule .1 = sym (coded-code (newest .rows i .own)) ∙ ap coded (eqb-true (code (newest .rows i .own)) (code (getD allRules i noRule .1)) (k .1 .0)) ∙ coded-code (getD allRules i noRule .1) in
+    let o : newest .rows i .own ≡ getD allRules i noRule .1 = same-own _ _ (k .1 .0) in
     rw (m, o))
 
 -- a voice in its range has its kind, and its values make it again
@@ -173,31 +154,31 @@ swept-made c (Noise shift tap output) rest g h e = no-kind 0 c 3 h
 
 -- what the code lays out, one part after the other, is the list of values
 
-tail-length : (k : Kind) (o : ℕ) → length (tailFields k o) ≡ 12
+tail-length : (k : Kind) (o m : ℕ) → length (tailFields k o m) ≡ 13
 unfolding tailFields
-tail-length (Wave b p) o = refl
-tail-length (Swept b p s) o = refl
-tail-length (Noise s t b) o = refl
+tail-length (Wave b p) o m = refl
+tail-length (Swept b p s) o m = refl
+tail-length (Noise s t b) o m = refl
 
 module _ (u : Vsu) (w : length (u .waves) ≡ 160) (m : length (u .modulation) ≡ 32) (n : length (u .voices) ≡ 6) where
   abbrev entriesOf : List ℕ
   entriesOf = map byteOf (u .modulation)
 
   abbrev tailOf : List ℕ
-  tailOf = tailFields (voiceAt 4 (u .voices) .kind) (u .output)
+  tailOf = tailFields (voiceAt 4 (u .voices) .kind) (u .output) (u .mutes)
 
   six-length : length (blocksOf (u .voices)) ≡ 114
   six-length = omega (arith, blocks-length (u .voices), n)
 
-  all-length : length (fieldsOf newest u) ≡ 325
+  all-length : length (fieldsOf newest u) ≡ 326
   unfolding fieldsOf
   all-length =
-      rw (length-append (u .waves) (entriesOf ++ (blocksOf (u .voices) ++ tailOf)), length-append entriesOf (blocksOf (u .voices) ++ tailOf), length-append (blocksOf (u .voices)) tailOf, length-map (u .modulation) byteOf, six-length, tail-length (voiceAt 4 (u .voices) .kind) (u .output), w, m)
+      rw (length-append (u .waves) (entriesOf ++ (blocksOf (u .voices) ++ tailOf)), length-append entriesOf (blocksOf (u .voices) ++ tailOf), length-append (blocksOf (u .voices)) tailOf, length-map (u .modulation) byteOf, six-length, tail-length (voiceAt 4 (u .voices) .kind) (u .output) (u .mutes), w, m)
 
-  pub all-laid : (l : List ℕ) {f₁ f₂ f₃ f₄ f₅ t : List ℕ} → length l ≡ 325 → f₁ ≡ sets l 0 (headerFields newest) → f₂ ≡ sets f₁ 7 (u .waves) → f₃ ≡ sets f₂ 167 entriesOf → f₄ ≡ sets f₃ 199 (blocksOf (u .voices)) → t ≡ tailOf → f₅ ≡ sets f₄ 313 t → f₅ ≡ fieldsOf newest u
+  pub all-laid : (l : List ℕ) {f₁ f₂ f₃ f₄ f₅ t : List ℕ} {muted : ℕ} → length l ≡ 326 → f₁ ≡ sets l 0 (headerFields newest) → f₂ ≡ sets f₁ 7 (u .waves) → f₃ ≡ sets f₂ 167 entriesOf → f₄ ≡ sets f₃ 199 (blocksOf (u .voices)) → muted ≡ u .mutes → t ≡ tailFields (voiceAt 4 (u .voices) .kind) (u .output) muted → f₅ ≡ sets f₄ 313 t → f₅ ≡ fieldsOf newest u
   unfolding fieldsOf
-  all-laid l z a b c d e g =
-      rw (g, e, d, c, b, a)
+  all-laid l z a b c d o e g =
+      rw (g, e, o, d, c, b, a)
       (sets-append (sets (sets (sets l 0 (headerFields newest)) 7 (u .waves)) 167 entriesOf) 199 (blocksOf (u .voices)) tailOf (omega (arith, six-length))
       ∙ sets-append (sets (sets l 0 (headerFields newest)) 7 (u .waves)) 167 entriesOf (blocksOf (u .voices) ++ tailOf) (omega (arith, length-map (u .modulation) byteOf, m))
       ∙ sets-append (sets l 0 (headerFields newest)) 7 (u .waves) (entriesOf ++ (blocksOf (u .voices) ++ tailOf)) (omega (arith, w))
@@ -214,7 +195,7 @@ module _ (u : Vsu) (r : InRange u) where
   noiseShift = shiftOf (v 5 .kind)
 
   abbrev tail : List ℕ
-  tail = tailFields (v 4 .kind) (u .output)
+  tail = tailFields (v 4 .kind) (u .output) (u .mutes)
 
   abbrev rest4 : List ℕ
   rest4 = voiceFields (v 5) ++ tail
@@ -249,7 +230,7 @@ module _ (u : Vsu) (r : InRange u) where
   unfolding fieldsOf
   laid-out = rw six-blocks
 
-  pub fields-length : length (fieldsOf newest u) ≡ 325
+  pub fields-length : length (fieldsOf newest u) ≡ 326
   fields-length = all-length u (r .waves) (r .entries) (r .voices .six)
 
   -- what follows each part
@@ -294,9 +275,9 @@ module _ (u : Vsu) (r : InRange u) where
       (then (part {cs = waveRules} (voiceFields (v 3)) refl (keep-wave noiseShift (v 3 .channel) (v 3 .kind) (r .voices .fourth)))
       (then (part {cs = waveRules} (voiceFields (v 4)) refl (keep-swept noiseShift (v 4 .channel) (v 4 .kind) (r .voices .fifth)))
       (then (part {cs = noiseRules} (voiceFields (v 5)) refl (keep-noise noiseShift (v 5 .channel) (v 5 .kind) (r .voices .sixth) refl))
-      (part {cs = plainly sweep} tail (sym (tail-length (v 4 .kind) (u .output))) (keep-tail noiseShift (v 4 .channel) (v 4 .kind) (u .output) (r .voices .fifth) (r .output)))))))))))
+      (part {cs = plainly tailCells} tail (sym (tail-length (v 4 .kind) (u .output) (u .mutes))) (keep-tail noiseShift (v 4 .channel) (v 4 .kind) (u .output) (u .mutes) (r .voices .fifth) (r .output) (r .mutes)))))))))))
 
-  pub none-at-fault : (i : ℕ) → i < 325 → faultyAt newest (fieldsOf newest u) i ≡ false
+  pub none-at-fault : (i : ℕ) → i < 326 → faultyAt newest (fieldsOf newest u) i ≡ false
   none-at-fault i h =
       row-rule i (getD (fieldsOf newest u) 311 0) (getD (fieldsOf newest u) i 0) h
       ∙ rw (shift-there, laid-out) (kept-at noiseShift allRules laid i (kept .test) h (omega (arith, h, kept .same)))
@@ -306,12 +287,12 @@ module _ (u : Vsu) (r : InRange u) where
   abbrev roomy : ℕ → Bool
   roomy i = ltb (newest .rows i .most) (256 ^ sizeOf (newest .rows i .width))
 
-  every-roomy : below roomy 325 ≡ true
+  every-roomy : below roomy 326 ≡ true
   unfolding rowIn partOf partIn cellAt
   every-roomy = refl
 
-  pub fits : (i : ℕ) → i < 325 → getD (fieldsOf newest u) i 0 < 256 ^ sizeOf (newest .rows i .width)
-  fits i h = lt-of-le-of-lt (most-at (fieldsOf newest u) fields-length none-at-fault i h) (ltb-true _ _ (at roomy 325 i every-roomy h))
+  pub fits : (i : ℕ) → i < 326 → getD (fieldsOf newest u) i 0 < 256 ^ sizeOf (newest .rows i .width)
+  fits i h = lt-of-le-of-lt (most-at (fieldsOf newest u) fields-length none-at-fault i h) (ltb-true _ _ (at roomy 326 i every-roomy h))
 
   -- the state of its values
 
@@ -324,7 +305,7 @@ module _ (u : Vsu) (r : InRange u) where
   same-sweep : (bank position : ℕ) (s : SweepModulate) → v 4 .kind ≡ Swept bank position s → sweepInRange s ≡ true → sweepBy sweepValues ≡ s
   unfolding voiceFields
   same-sweep bank position s e h =
-      ap sweepBy (values 114 {at₀ = 313} refl) ∙ rw (← append-nil tail, e) (sweep-back bank position s (u .output) [] h)
+      ap sweepBy (values 114 {at₀ = 313} refl) ∙ rw (← append-nil tail, e) (sweep-back bank position s (u .output) (u .mutes) [] h)
 
   same-fifth : sweptBy (from (fieldsOf newest u) 275) sweepValues ≡ v 4
   unfolding voiceFields
@@ -342,15 +323,25 @@ module _ (u : Vsu) (r : InRange u) where
       let e : noiseBy (from (fieldsOf newest u) 294) ≡ v 5 = made noiseBy (v 5) 95 refl (noise-made (v 5 .channel) (v 5 .kind) tail (r .voices .sixth)) in
       rw (a, b, c, d, same-fifth, e) (sym (six-list (u .voices) (r .voices .six)))
 
-  tail-output : (k : Kind) (o : ℕ) → getD (tailFields k o) 10 0 ≡ o
+  tail-output : (k : Kind) (o m : ℕ) → getD (tailFields k o m) 10 0 ≡ o
   unfolding tailFields
-  tail-output (Wave b p) o = refl
-  tail-output (Swept b p s) o = refl
-  tail-output (Noise s t b) o = refl
+  tail-output (Wave b p) o m = refl
+  tail-output (Swept b p s) o m = refl
+  tail-output (Noise s t b) o m = refl
+
+  tail-mutes : (k : Kind) (o m : ℕ) → getD (tailFields k o m) 11 0 ≡ m
+  unfolding tailFields
+  tail-mutes (Wave b p) o m = refl
+  tail-mutes (Swept b p s) o m = refl
+  tail-mutes (Noise s t b) o m = refl
 
   output-there : getD (fieldsOf newest u) 323 0 ≡ u .output
   unfolding voiceFields
-  output-there = ap (λ (g : ℕ → ℕ). g 10) (values 114 {at₀ = 313} refl) ∙ tail-output (v 4 .kind) (u .output)
+  output-there = ap (λ (g : ℕ → ℕ). g 10) (values 114 {at₀ = 313} refl) ∙ tail-output (v 4 .kind) (u .output) (u .mutes)
+
+  mutes-there : getD (fieldsOf newest u) 324 0 ≡ u .mutes
+  unfolding voiceFields
+  mutes-there = ap (λ (g : ℕ → ℕ). g 11) (values 114 {at₀ = 313} refl) ∙ tail-mutes (v 4 .kind) (u .output) (u .mutes)
 
   pub state-back : stateOf (fieldsOf newest u) ≡ u
   unfolding stateOf
@@ -358,4 +349,5 @@ module _ (u : Vsu) (r : InRange u) where
       let w : take 160 (drop 7 (fieldsOf newest u)) ≡ u .waves = ap (take 160) after-header ∙ take-at (u .waves) (entries ++ blocks) 160 (r .waves) in
       let m : take 32 (drop 167 (fieldsOf newest u)) ≡ entries = ap (take 32) after-waves ∙ take-at entries blocks 32 entries-length in
       let o : getD (fieldsOf newest u) 323 0 ≡ u .output = output-there in
-      rw (same-voices, w, m, o, samples-again (u .waves) (r .small), entries-back (u .modulation) (r .bytes))
+      let q : getD (fieldsOf newest u) 324 0 ≡ u .mutes = mutes-there in
+      rw (same-voices, w, m, o, q, byte-same (u .mutes) (le-trans (r .mutes) (omega arith)), samples-again (u .waves) (r .small), entries-back (u .modulation) (r .bytes))

@@ -17,7 +17,7 @@ use Rattle.voice.specs.declared.channel_enum.Voice.{Voice}
 use Rattle.sweep.specs.declared.sweep_modulate.SweepModulate.{SweepModulate}
 use Rattle.vsu.specs.Core.{voiceAt}
 use Rattle.vsu.specs.declared.core.Vsu.{Vsu}
-use Rattle.table.specs.Table.{Edition, channelFrom, modulationFrom, outputField, sweepFrom, wavesFrom}
+use Rattle.table.specs.Table.{Edition, channelFrom, modulationFrom, mutesField, outputField, sweepFrom, wavesFrom}
 
 -- From a state to its values.
 
@@ -71,12 +71,13 @@ blocksOf (v ∷ vs) = voiceFields v ++ blocksOf vs
 abbrev pub sweepFlags : SweepModulate → ℕ
 sweepFlags s = flagsOf (s .enable) (s .looped) (s .modulate) (s .slow) (s .up)
 
--- the sweep, then the output counter and zero; a voice of another kind has no sweep, and is out of range
-unfoldable pub tailFields : Kind → ℕ → List ℕ
-tailFields (Wave bank position) output = 0 ∷ 0 ∷ 0 ∷ 0 ∷ 0 ∷ 0 ∷ 0 ∷ 0 ∷ 0 ∷ 0 ∷ output ∷ 0 ∷ []
-tailFields (Swept bank position s) output =
-    sweepFlags s ∷ s .interval ∷ s .shift ∷ s .counter ∷ s .step ∷ s .index ∷ 0 ∷ s .last ∷ s .current ∷ s .next ∷ output ∷ 0 ∷ []
-tailFields (Noise shift tap output·bit) output = 0 ∷ 0 ∷ 0 ∷ 0 ∷ 0 ∷ 0 ∷ 0 ∷ 0 ∷ 0 ∷ 0 ∷ output ∷ 0 ∷ []
+-- the sweep, then the output counter, the mutes and zero; a voice of another kind has no sweep, and is out of range
+unfoldable pub tailFields : Kind → ℕ → ℕ → List ℕ
+tailFields (Wave bank position) output mutes = 0 ∷ 0 ∷ 0 ∷ 0 ∷ 0 ∷ 0 ∷ 0 ∷ 0 ∷ 0 ∷ 0 ∷ output ∷ mutes ∷ 0 ∷ []
+tailFields (Swept bank position s) output mutes =
+    sweepFlags s ∷ s .interval ∷ s .shift ∷ s .counter ∷ s .step ∷ s .index ∷ 0 ∷ s .last ∷ s .current ∷ s .next ∷ output ∷ mutes ∷ 0
+    ∷ []
+tailFields (Noise shift tap output·bit) output mutes = 0 ∷ 0 ∷ 0 ∷ 0 ∷ 0 ∷ 0 ∷ 0 ∷ 0 ∷ 0 ∷ 0 ∷ output ∷ mutes ∷ 0 ∷ []
 
 -- the header's seven numbers: the largest values of its rows
 abbrev pub headerFields : Edition → List ℕ
@@ -84,7 +85,7 @@ headerFields e = map (λ (i : ℕ). e .rows i .most) (0 ∷ 1 ∷ 2 ∷ 3 ∷ 4 
 
 unfoldable pub fieldsOf : Edition → Vsu → List ℕ
 fieldsOf e u =
-    headerFields e ++ (u .waves ++ (map byteOf (u .modulation) ++ (blocksOf (u .voices) ++ tailFields (voiceAt 4 (u .voices) .kind) (u .output))))
+    headerFields e ++ (u .waves ++ (map byteOf (u .modulation) ++ (blocksOf (u .voices) ++ tailFields (voiceAt 4 (u .voices) .kind) (u .output) (u .mutes))))
 
 -- From values to a state: `v` gives the values of a block, by their numbers in it. A byte of the state, or two, take the low part of a
 -- value; those of an accepted image are no larger.
@@ -168,6 +169,7 @@ voicesBy f =
 abbrev pub entryBy : ℕ → ℤ
 entryBy value = signed (byte value)
 
+-- "edition 1 is still read, as nothing muted": the value there is its u16 zero
 unfoldable pub stateOf : List ℕ → Vsu
 stateOf f =
     record {
@@ -175,4 +177,5 @@ stateOf f =
       output = getD f outputField 0;
       waves = map byte (take 160 (drop wavesFrom f));
       modulation = map entryBy (take 32 (drop modulationFrom f));
+      mutes = byte (getD f mutesField 0);
     }

@@ -9,6 +9,7 @@ use table::CHANNEL_FIELDS;
 use table::CHANNELS;
 use table::FIELDS;
 use table::MODULATION;
+use table::MUTES;
 use table::NEWEST;
 use table::NOISE;
 use table::OUTPUT;
@@ -144,14 +145,14 @@ fn voice_fields(v: Voice) -> [u32; 19]
     ]
 }
 
-fn tail_fields(k: Kind, output: u32) -> [u32; 12]
-    ensures { λ r. ⌜ r ≡ tailFields k output ⌝ }
+fn tail_fields(k: Kind, output: u32, mutes: u32) -> [u32; 13]
+    ensures { λ r. ⌜ r ≡ tailFields k output mutes ⌝ }
 {
     match k {
         Kind::Wave {
             bank: _,
             position: _,
-        } => [0, 0, 0, 0, 0, 0, 0, 0, 0, 0, output, 0],
+        } => [0, 0, 0, 0, 0, 0, 0, 0, 0, 0, output, mutes, 0],
         Kind::Swept {
             bank: _,
             position: _,
@@ -168,13 +169,14 @@ fn tail_fields(k: Kind, output: u32) -> [u32; 12]
             wide16(s.current),
             wide16(s.next),
             output,
+            mutes,
             0,
         ],
         Kind::Noise {
             shift: _,
             tap: _,
             output: _,
-        } => [0, 0, 0, 0, 0, 0, 0, 0, 0, 0, output, 0],
+        } => [0, 0, 0, 0, 0, 0, 0, 0, 0, 0, output, mutes, 0],
     }
 }
 
@@ -241,7 +243,7 @@ pub fn fields_of(u: Vsu) -> [u32; FIELDS]
     let voices = u.voices;
     let v = voices[4];
     let k = v.kind;
-    let tail = tail_fields(k, u.output);
+    let tail = tail_fields(k, u.output, wide8(u.mutes));
     let mut f = [0; FIELDS];
     lay_header(&mut f);
     lay_waves(&mut f, waves);
@@ -440,5 +442,6 @@ pub fn state_of(f: [u32; FIELDS]) -> Vsu
         output: f[OUTPUT],
         waves: waves,
         modulation: modulation,
+        mutes: byte(&f, MUTES),
     }
 }

@@ -1,13 +1,14 @@
 -- What `write_image` and `read_image` answer and leave: one law for a refusal, one for the call accepted.
-use Prim.Native.Nat.{ℕ, _+_, _<_, _≤_}
+use Prim.Native.Nat.{ℕ, _+_, _-_, _<_, _≤_}
 use mathlib.Core.Path.{_≡_, refl, sym, ap, _∙_}
 use mathlib.Core.Bool.{true, false, not}
 use mathlib.Core.List.{List, [], _++_}
 use native.Mathlib.Omega.{arith}
-use borrow.Author.Tests.{eq-eqb, ne-eqb, le-ltb, lt-ltb}
-use lib.Dec.{eqb, ltb}
-use lib.ListN.{drop, length}
+use borrow.Author.Tests.{le-ltb, lt-ltb}
+use lib.Dec.{ltb}
+use lib.ListN.{drop, length, replicate}
 use lib.Seq.{sets, sets-eq}
+use Rattle.fields.proofs.EditionLaws.{fields-least, padded, state-padded}
 use Rattle.fields.specs.Fields.{fieldsOf, stateOf}
 use Rattle.refusal.proofs.RefusalLaws as order
 use Rattle.refusal.specs.Refusal.{Tells, fault}
@@ -15,12 +16,14 @@ use Rattle.refusal.specs.declared.Answer.{Answer}
 use Rattle.refusal.specs.declared.Answer.the-variants.{Accepted, Refused}
 use Rattle.refusal.specs.declared.Refusal.{Refusal}
 use Rattle.refusal.specs.declared.Refusal.the-variants.{ImageSize, Room, State}
-use Rattle.table.specs.Table.{newest}
+use Rattle.table.specs.Table.{fieldCount, knownEdition, newest}
+use Rattle.table.specs.declared.Known.{Known}
 use Rattle.vsu.specs.Core.{inRange, unitAnswer}
 use Rattle.vsu.specs.declared.core.Vsu.{Vsu}
-use Rattle.image.specs.Image.{bytesOf, fieldsAnswer, fieldsIn, imageAnswer, imageOf, loadedBy, readAnswer, readOf, writtenBy, writtenOf}
+use Rattle.image.specs.Image.{bytesOf, editionIn, fieldsAnswer, fieldsIn, imageAnswer, imageOf, knownIn, loadedBy, readAnswer, readOf, writtenBy, writtenOf}
 use Rattle.image.specs.declared.Loaded.{Loaded}
-use Rattle.image.proofs.RoundTrip.{image-420}
+use Rattle.image.proofs.ImageLaws.{answer-same, values-length}
+use Rattle.image.proofs.RoundTrip.{image-420, sized, unsized}
 
 -- writing
 
@@ -75,31 +78,41 @@ answer-of Accepted f = refl
 answer-of (Refused why) f = refl
 
 -- for callers
-pub read-answer : (b : List ℕ) → readOf b .answer ≡ readAnswer newest b
-read-answer b = answer-of (readAnswer newest b) (fieldsIn newest b)
+pub read-answer : (b : List ℕ) → readOf b .answer ≡ readAnswer b
+unfolding readOf
+read-answer b = answer-of (readAnswer b) (fieldsIn (editionIn b) b)
 
 module _ (b : List ℕ) where
   abbrev pub Told : Loaded → Type 0
-  Told r = (r ≡ readOf b) × Tells (r .answer) (readAnswer newest b)
+  Told r = (r ≡ readOf b) × Tells (r .answer) (readAnswer b)
 
   told : {r : Loaded} → r ≡ readOf b → Told r
   told e = (e, order.tells (ap (λ (r : Loaded). r .answer) e ∙ read-answer b))
 
   pub read-size : {r : Loaded} → (length b ≡ newest .size → ⊥) → r ≡ loadedBy (Refused ImageSize) [] → Told r
-  unfolding readAnswer loadedBy
-  read-size n e =
-      let q : readAnswer newest b ≡ Refused ImageSize = order.ends _ (order.at-fault {t = not (eqb (length b) (newest .size))} ImageSize (rw (ne-eqb _ _ n))) in
-      told (e ∙ rw q)
+  unfolding readOf readAnswer loadedBy
+  read-size n e = told (e ∙ rw (unsized (editionIn b) b n))
 
-  module _ {f : List ℕ} {a : Answer} (n : length b ≡ newest .size) (p : f ≡ fieldsIn newest b) (q : a ≡ fieldsAnswer newest f (newest .fields) 0) where
-    answered : a ≡ readAnswer newest b
+  module _ {k : Known} {f : List ℕ} {a : Answer} (d : k ≡ knownIn b) (n : length b ≡ newest .size) (p : f ≡ fieldsIn (knownEdition k) b ++ replicate (newest .fields - fieldCount k) 0) (q : a ≡ fieldsAnswer (knownEdition k) f (fieldCount k) 0) where
+    abbrev values : List ℕ
+    values = fieldsIn (knownEdition k) b
+
+    answered : a ≡ readAnswer b
     unfolding readAnswer
-    answered = q ∙ rw p (sym (order.on _ (order.sound {t = not (eqb (length b) (newest .size))} ImageSize (rw (eq-eqb _ _ n)))))
+    answered =
+        rw (← d)
+        (q ∙ ap (λ (f : List ℕ). fieldsAnswer (knownEdition k) f (fieldCount k) 0) p
+        ∙ answer-same (knownEdition k) _ values (padded values (newest .fields - fieldCount k)) (fieldCount k) 0
+        ∙ sym (sized (knownEdition k) b n))
 
     pub read-refused : {why : Refusal} {r : Loaded} → a ≡ Refused why → r ≡ loadedBy (Refused why) [] → Told r
-    unfolding loadedBy
+    unfolding readOf loadedBy
     read-refused c e = told (e ∙ rw (← answered, c))
 
+    state-read : stateOf f ≡ stateOf values
+    state-read =
+        ap stateOf p ∙ state-padded values (newest .fields - fieldCount k) (omega (arith, values-length (knownEdition k) b (fieldCount k), fields-least k))
+
     pub read-done : {u : Vsu} → a ≡ Accepted → u ≡ stateOf f → Told (record { state = u; answer = Accepted })
-    unfolding loadedBy
-    read-done c e = told (rw (e, p, ← answered, c))
+    unfolding readOf loadedBy
+    read-done c e = told (rw (e, state-read, ← answered, c, ← d))

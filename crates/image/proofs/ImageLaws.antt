@@ -7,18 +7,18 @@ use native.Mathlib.Decide.{ℕ-discrete}
 use native.Mathlib.Nat.{le-refl}
 use native.Mathlib.Numerals.{add-one}
 use native.Mathlib.Omega.{arith}
-use lib.ListN.{getD, set, take, drop, length, length-append, length-drop, List·getD-append}
-use lib.Seq.{sets, getD-at, ext-getD, take-add, getD-drop, drop-at}
+use lib.ListN.{getD, set, take, drop, length, length-append, length-drop, length-replicate, replicate, List·getD-append}
+use lib.Seq.{sets, sets-eq, getD-at, ext-getD, take-add, getD-drop, drop-at}
 use Rattle.laws.proofs.Cases.{ahead}
 use Rattle.little.proofs.LittleLaws.{sets-append, bytes-length, front-bytes, bytes-front}
 use Rattle.little.specs.Little.{bytes, front, number, sizeOf}
-use Rattle.refusal.specs.declared.Answer.{Answer}
 use Rattle.refusal.specs.declared.Answer.the-variants.{Accepted, Refused}
 use Rattle.refusal.specs.declared.Refusal.{Refusal}
 use Rattle.refusal.specs.Refusal.{fault, _then_}
-use Rattle.table.specs.Table.{Edition, faultyAt, fieldFaulty}
+use Rattle.table.specs.Table.{Edition, faultyAt, fieldCount, fieldFaulty, knownEdition, newest}
+use Rattle.table.specs.declared.Known.{Known}
 use Rattle.table.specs.declared.Row.{Row}
-use Rattle.table.proofs.TableLaws.{Laid}
+use Rattle.table.proofs.TableLaws.{Laid, fields-most}
 use Rattle.image.specs.Image.{bytesOf, fieldsAnswer, refusalAt, valuesOf}
 
 -- what the loops go by
@@ -40,13 +40,31 @@ module _ {e : Edition} (laid : Laid e) where
   put-step l f i h p q s t =
       rw (t, s, p, q, add-one i) (sets-append l 0 (bytesOf e f i) (bytes (sizeOf (e .rows i .width)) (getD f i 0)) (omega (arith, image-length f i (omega arith))))
 
+drop-zeros : (m n : ℕ) → drop {A = ℕ} m (replicate n 0) ≡ replicate (n - m) 0
+drop-zeros zero n = let e : n - 0 ≡ n = omega arith in rw e
+drop-zeros (suc m) zero = let e : 0 - suc m ≡ 0 = omega arith in rw e
+drop-zeros (suc m) (suc n) = let e : suc n - suc m ≡ n - m = omega arith in rw e (drop-zeros m n)
+
 pub take-step : (e : Edition) (l b : List ℕ) (i : ℕ) {f : List ℕ} {r : Row} {v : ℕ} → r ≡ e .rows i → v ≡ number (sizeOf (r .width)) b (r .offset) → f ≡ sets l 0 (valuesOf e b i) → set f i v ≡ sets l 0 (valuesOf e b (i + 1))
 unfolding valuesOf
 take-step e l b i p q s =
     rw (s, q, p, add-one i)
     (sets-append l 0 (valuesOf e b i) (number (sizeOf (e .rows i .width)) b (e .rows i .offset) ∷ []) (omega (arith, values-length e b i)))
 
+-- the values of all fields, and the zeros that are left behind them
+pub take-done : (k : Known) (b : List ℕ) (i : ℕ) {f : List ℕ} → i ≤ fieldCount k → fieldCount k ≤ i → f ≡ sets (replicate (newest .fields) 0) 0 (valuesOf (knownEdition k) b i) → f ≡ valuesOf (knownEdition k) b (fieldCount k) ++ replicate (newest .fields - fieldCount k) 0
+take-done k b i h g e =
+    let values : List ℕ = valuesOf (knownEdition k) b (fieldCount k) in
+    let n : length values ≡ fieldCount k = values-length (knownEdition k) b (fieldCount k) in
+    let z : 0 + length values ≡ fieldCount k = omega (arith, n) in
+    let q : i ≡ fieldCount k = omega arith in
+    (rw q at e) ∙ sets-eq values (replicate (newest .fields) 0) 0 (omega (arith, n, fields-most k, length-replicate {A = ℕ} (newest .fields) 0))
+    ∙ ap (λ (zs : List ℕ). values ++ zs) (rw z (drop-zeros (fieldCount k) (newest .fields)))
+
 -- the lowest fault
+
+pub fault-first : (e : Edition) (f : List ℕ) → fieldsAnswer e f (e .fields) 0 ≡ fieldsAnswer e f (e .fields - 0) 0
+fault-first e f = let z : e .fields - 0 ≡ e .fields = omega arith in rw z
 
 module _ (e : Edition) (f : List ℕ) (i : ℕ) where
   left : i < e .fields → e .fields - i ≡ suc (e .fields - (i + 1))
@@ -63,6 +81,19 @@ module _ (e : Edition) (f : List ℕ) (i : ℕ) where
   pub no-fault : e .fields ≤ i → fieldsAnswer e f (e .fields - i) i ≡ Accepted
   unfolding fieldsAnswer fault _then_
   no-fault h = let z : e .fields - i ≡ 0 = omega arith in rw z
+
+-- values that agree have the same answer and the same bytes
+
+module _ (e : Edition) (f g : List ℕ) where
+  pub answer-same : ((i : ℕ) → getD f i 0 ≡ getD g i 0) → (n i : ℕ) → fieldsAnswer e f n i ≡ fieldsAnswer e g n i
+  unfolding fieldsAnswer
+  answer-same s zero i = refl
+  answer-same s (suc n) i = rw (s (e .shift), s i, answer-same s n (suc i))
+
+  pub bytes-same : (n : ℕ) → ((i : ℕ) → i < n → getD f i 0 ≡ getD g i 0) → bytesOf e f n ≡ bytesOf e g n
+  unfolding bytesOf
+  bytes-same zero s = refl
+  bytes-same (suc n) s = rw (s n (omega arith), bytes-same n (λ i h. s i (omega arith)))
 
 -- An accepted image has no field at fault; a refused one's offset is that of the first, and no lower one is at fault.
 
@@ -91,7 +122,7 @@ module _ (e : Edition) (f : List ℕ) where
       rw h (answer-none n (suc i) (λ j p q. s j (omega arith) (omega arith)))
 
   -- the first field at fault
-  pub record First (n i k : ℕ) (why : Refusal) : Type 0 where
+  pub record FirstFault (n i k : ℕ) (why : Refusal) : Type 0 where
     pub from : i ≤ k
     pub before : k < i + n
     pub fault : faultyAt e f k ≡ true
@@ -99,7 +130,7 @@ module _ (e : Edition) (f : List ℕ) where
     pub sound : (j : ℕ) → i ≤ j → j < k → faultyAt e f j ≡ false
 
   abbrev pub Some : ℕ → ℕ → Refusal → Type 0
-  Some n i why = (k : ℕ) × First n i k why
+  Some n i why = (k : ℕ) × FirstFault n i k why
 
   first-step : (n i : ℕ) (why : Refusal) → (fieldsAnswer e f n (suc i) ≡ Refused why → Some n (suc i) why) → (t : Bool) → faultyAt e f i ≡ t → (fault t (refusalAt (e .rows i .offset)) then fieldsAnswer e f n (suc i)) ≡ Refused why → Some (suc n) i why
   unfolding fault _then_

@@ -1,4 +1,4 @@
--- The state image, in document 01's words: 420 bytes, little-endian.
+-- The state image, in the words of documents 01 and 02: 420 bytes, little-endian.
 use Prim.Native.Nat.{ℕ, zero, suc, _+_}
 use mathlib.Core.Bool.{cond, not}
 use mathlib.Core.List.{List, [], _∷_, _++_}
@@ -9,9 +9,11 @@ use Rattle.refusal.specs.Refusal.{fault, _then_}
 use Rattle.refusal.specs.declared.Answer.{Answer}
 use Rattle.refusal.specs.declared.Answer.the-variants.{Accepted, Refused}
 use Rattle.refusal.specs.declared.Refusal.{Refusal}
-use Rattle.refusal.specs.declared.Refusal.the-variants.{State, Room, ImageSize, ImageHeader, ImageField}
+use Rattle.refusal.specs.declared.Refusal.the-variants.{Room, ImageSize, ImageHeader, ImageField}
 use Rattle.fields.specs.Fields.{fieldsOf, stateOf}
-use Rattle.table.specs.Table.{Edition, faultyAt, newest}
+use Rattle.table.specs.Table.{Edition, faultyAt, knownEdition, newest}
+use Rattle.table.specs.declared.Known.{Known}
+use Rattle.table.specs.declared.Known.the-variants.{First, Second}
 use Rattle.vsu.specs.Core.{powerOn, unitAnswer}
 use Rattle.vsu.specs.declared.core.Vsu.{Vsu}
 use Rattle.image.specs.declared.Loaded.{Loaded}
@@ -45,19 +47,31 @@ module _ (e : Edition) where
   fieldsAnswer f (suc n) i = fault (faultyAt e f i) (refusalAt (e .rows i .offset)) then fieldsAnswer f n (suc i)
 
   -- 9, "image not 420 bytes", then 10 and 11
-  unfoldable pub readAnswer : List ℕ → Answer
-  readAnswer b = fault (not (eqb (length b) (e .size))) ImageSize then fieldsAnswer (fieldsIn b) (e .fields) 0
+  unfoldable pub editionAnswer : List ℕ → Answer
+  editionAnswer b = fault (not (eqb (length b) (e .size))) ImageSize then fieldsAnswer (fieldsIn b) (e .fields) 0
 
--- Reading. Handed back: "a refused image the power-on state".
+-- Reading. The u16 at 0 tells the edition: "edition 1 is still read"; what is neither 1 nor 2 breaks the header of edition 2, so that
+-- it is "10 for editions other than 1 and 2".
+
+unfoldable pub knownIn : List ℕ → Known
+knownIn b = cond (eqb (number 2 b 0) 1) First Second
+
+abbrev pub editionIn : List ℕ → Edition
+editionIn b = knownEdition (knownIn b)
+
+unfoldable pub readAnswer : List ℕ → Answer
+readAnswer b = editionAnswer (editionIn b) b
+
+-- Handed back: "a refused image the power-on state".
 
 unfoldable pub loadedBy : Answer → List ℕ → Loaded
 loadedBy Accepted f = record { state = stateOf f; answer = Accepted }
 loadedBy (Refused why) f = record { state = powerOn; answer = Refused why }
 
-abbrev pub readOf : List ℕ → Loaded
-readOf b = loadedBy (readAnswer newest b) (fieldsIn newest b)
+unfoldable pub readOf : List ℕ → Loaded
+readOf b = loadedBy (readAnswer b) (fieldsIn (editionIn b) b)
 
--- Writing: "1, then 2". "Images go to the buffer's first 420 bytes."
+-- Writing, always by the newest edition: "1, then 2". "Images go to the buffer's first 420 bytes."
 
 unfoldable pub imageAnswer : Vsu → ℕ → Answer
 imageAnswer u room = unitAnswer u then fault (ltb room (newest .size)) Room

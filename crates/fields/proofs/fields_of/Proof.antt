@@ -9,6 +9,9 @@ use Rattle.fields.proofs.fields_of.Tie as tie
 array-copy-out-v : tie.Need-array-copy-out-v
 array-copy-out-v c = search needs
 
+wide8-requires : tie.Need-wide8-requires
+wide8-requires c κs = search needs
+
 tail-fields-requires : tie.Need-tail-fields-requires
 tail-fields-requires c κs = search needs
 
@@ -32,17 +35,18 @@ lay-requires c κs = search needs
 
 returns : tie.Need-returns
 returns c =
-    let u = c .before .before .before .before .before .before .before .before .before .before .before .before .before .before .before .before .args .u in
+    let u = c .before .before .before .before .before .before .before .before .before .before .before .before .before .before .before .before .before .args .u in
     let six : length (u .voices) ≡ 6 = search (needs, length-told) in
     let waves : length (u .waves) ≡ 160 = search needs in
     let entries : length (u .modulation) ≡ 32 = search needs in
-    laws.all-laid u waves entries six (replicate 325 0) refl (c .before .before .before .before .before .before .before .before .before .lay-header .ensures) (c .before .before .before .before .before .before .before .lay-waves .ensures) (c .before .before .before .before .before .lay-modulation .ensures) (c .before .before .before .lay-voices .ensures) (c .before .before .before .before .before .before .before .before .before .before .before .tail-fields .ensures) (c .lay .ensures)
+    laws.all-laid u waves entries six (replicate 326 0) refl (c .before .before .before .before .before .before .before .before .before .lay-header .ensures) (c .before .before .before .before .before .before .before .lay-waves .ensures) (c .before .before .before .before .before .lay-modulation .ensures) (c .before .before .before .lay-voices .ensures) (c .before .before .before .before .before .before .before .before .before .before .before .before .wide8 .ensures) (c .before .before .before .before .before .before .before .before .before .before .before .tail-fields .ensures) (c .lay .ensures)
 
 pub fields-of-spec : {M : Type 1} → statement M
 fields-of-spec =
     tie.close
     (tie.spec
     array-copy-out-v
+    wide8-requires
     tail-fields-requires
     lay-header-requires
     lay-waves-requires

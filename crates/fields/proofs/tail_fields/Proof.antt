@@ -42,7 +42,7 @@ unfolding tailFields
 returns c = rw (c .enum-told .given .1)
 
 returns-2 : tie.Need-returns-2
-returns-2 c = laws.tail-swept _ (c .before .before .before .before .before .before .before .before .before .k .given .1) (c .before .before .before .before .before .before .before .flags .ensures) (c .before .before .before .before .before .before .wide8 .ensures) (c .before .before .before .before .before .wide82 .ensures) (c .before .before .before .before .wide83 .ensures) (c .before .before .before .wide84 .ensures) (c .before .before .wide16 .ensures) (c .before .wide162 .ensures) (c .wide163 .ensures)
+returns-2 c = laws.tail-swept _ _ (c .before .before .before .before .before .before .before .before .before .k .given .1) (c .before .before .before .before .before .before .before .flags .ensures) (c .before .before .before .before .before .before .wide8 .ensures) (c .before .before .before .before .before .wide82 .ensures) (c .before .before .before .before .wide83 .ensures) (c .before .before .before .wide84 .ensures) (c .before .before .wide16 .ensures) (c .before .wide162 .ensures) (c .wide163 .ensures)
 
 returns-3 : tie.Need-returns-3
 unfolding tailFields

@@ -6,17 +6,17 @@ use denote.Ref.{now}
 use lib.Seq.{length-sets, sets}
 use Rattle.image.specs.Image.{bytesOf}
 use Rattle.table.specs.Table.{newest}
-use Rattle.table.proofs.TableLaws.{table-laid}
+use Rattle.table.proofs.TableLaws.{newest-laid}
 use Rattle.image.proofs.ImageLaws as laws
 use borrow.Author.Needs.{needs}
 use Rattle.image.proofs.put_fields.Statement.{statement}
 use Rattle.image.proofs.put_fields.Tie as tie
 
 abbrev Inv-loop : tie.InvT-loop
-Inv-loop out₀ f i₀ out i = (i ≤ 325) × (out ≡ sets out₀ 0 (bytesOf newest f i))
+Inv-loop out₀ f i₀ out i = (i ≤ 326) × (out ≡ sets out₀ 0 (bytesOf newest f i))
 
 abbrev μ-loop : tie.MeasureT-loop
-μ-loop out₀ f i₀ out i = 325 - i
+μ-loop out₀ f i₀ out i = 326 - i
 
 loop-holds : tie.Need-loop-holds Inv-loop μ-loop
 unfolding bytesOf
@@ -47,13 +47,13 @@ loop-less : tie.Need-loop-less Inv-loop μ-loop
 loop-less c = search needs
 
 loop-again : tie.Need-loop-again Inv-loop μ-loop
-loop-again c = (search needs, laws.put-step table-laid (now (c .before .before .before .before .before .before .before .before .before .before .args .out)) (now (c .before .before .before .before .before .before .before .before .before .before .args .f)) (c .before .before .before .before .before .before .before .before .loop .i) (search needs) (c .before .before .before .before .before .before .row-at .ensures) refl (c .before .before .before .before .before .before .before .before .loop .inv .1) (c .before .before .put .ensures))
+loop-again c = (search needs, laws.put-step newest-laid (now (c .before .before .before .before .before .before .before .before .before .before .args .out)) (now (c .before .before .before .before .before .before .before .before .before .before .args .f)) (c .before .before .before .before .before .before .before .before .loop .i) (search needs) (c .before .before .before .before .before .before .row-at .ensures) refl (c .before .before .before .before .before .before .before .before .loop .inv .1) (c .before .before .put .ensures))
 
 same-length : tie.Need-same-length Inv-loop μ-loop
 same-length c = ap length (c .before .loop .inv .1) ∙ length-sets (now (c .before .before .before .args .out)) 0 (bytesOf newest (now (c .before .before .before .args .f)) (c .before .loop .i))
 
 returns : tie.Need-returns Inv-loop μ-loop
-returns c = let e : c .before .loop .i ≡ 325 = omega (arith, c .before .loop .inv .0, c .loop-test .left) in rw e at (c .before .loop .inv .1)
+returns c = let e : c .before .loop .i ≡ 326 = omega (arith, c .before .loop .inv .0, c .loop-test .left) in rw e at (c .before .loop .inv .1)
 
 pub put-fields-spec : {M : Type 1} → statement M
 put-fields-spec =

@@ -1,25 +1,30 @@
 use Prim.Native.Nat.{_≤_, _-_}
-use mathlib.Core.Path.{_≡_, refl, sym, _∙_}
+use mathlib.Core.Path.{_≡_, refl}
 use native.Mathlib.Omega.{arith}
 use denote.Ref.{now}
 use lib.Seq.{sets}
 use Rattle.image.specs.Image.{valuesOf}
-use Rattle.table.specs.Table.{newest}
-use Rattle.fields.proofs.FieldsLaws.{sets-all}
+use Rattle.table.specs.Table.{fieldCount, knownEdition}
+use Rattle.table.proofs.TableLaws.{fields-most}
 use Rattle.image.proofs.ImageLaws as laws
 use borrow.Author.Needs.{needs}
 use Rattle.image.proofs.take_fields.Statement.{statement}
 use Rattle.image.proofs.take_fields.Tie as tie
 
 abbrev Inv-loop : tie.InvT-loop
-Inv-loop b f₀ i₀ f i = (i ≤ 325) × (f ≡ sets f₀ 0 (valuesOf newest b i))
+Inv-loop edition b n f₀ i₀ f i = (n ≤ 326) × (n ≡ fieldCount edition) × (i ≤ n) × (f ≡ sets f₀ 0 (valuesOf (knownEdition edition) b i))
 
 abbrev μ-loop : tie.MeasureT-loop
-μ-loop b f₀ i₀ f i = 325 - i
+μ-loop edition b n f₀ i₀ f i = n - i
+
+fields-in-requires : tie.Need-fields-in-requires Inv-loop μ-loop
+fields-in-requires c κs = search needs
 
 loop-holds : tie.Need-loop-holds Inv-loop μ-loop
 unfolding valuesOf
-loop-holds c = (search needs, refl)
+loop-holds c =
+    let n = c .fields-in .ensures in
+    (omega (arith, n, fields-most (c .before .before .args .edition)), n, omega arith, refl)
 
 cast-row-at : tie.Need-cast-row-at Inv-loop μ-loop
 cast-row-at c = search needs
@@ -46,10 +51,16 @@ loop-less : tie.Need-loop-less Inv-loop μ-loop
 loop-less c = search needs
 
 loop-again : tie.Need-loop-again Inv-loop μ-loop
-loop-again c = (search needs, laws.take-step newest _ (now (c .before .before .before .before .before .before .args .b)) (c .before .before .before .before .loop .i) (c .before .before .row-at .ensures) (c .number-at .ensures) (c .before .before .before .before .loop .inv .1))
+loop-again c =
+    let l = c .before .before .before .before .loop in
+    let a = c .before .before .before .before .before .before .before .args in
+    (search needs, search needs, search needs, laws.take-step (knownEdition (a .edition)) _ (now (a .b)) (l .i) (c .before .before .row-at .ensures) (c .number-at .ensures) (l .inv .3))
 
 returns : tie.Need-returns Inv-loop μ-loop
-returns c = let e : c .before .loop .i ≡ 325 = omega (arith, c .before .loop .inv .0, c .loop-test .left) in c .before .loop .inv .1 ∙ rw e (sets-all _ (valuesOf newest (now (c .before .before .before .args .b)) 325) (sym (laws.values-length newest (now (c .before .before .before .args .b)) 325)))
+returns c =
+    let l = c .before .loop in
+    let a = c .before .before .before .before .args in
+    laws.take-done (a .edition) (now (a .b)) (l .i) (search needs) (search needs) (l .inv .3)
 
 pub take-fields-spec : {M : Type 1} → statement M
 take-fields-spec =
@@ -57,6 +68,7 @@ take-fields-spec =
     (tie.spec
     Inv-loop
     μ-loop
+    fields-in-requires
     loop-holds
     cast-row-at
     row-at-requires

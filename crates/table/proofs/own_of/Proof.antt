@@ -1,6 +1,6 @@
 use borrow.Author.Tests.{ne-eqb}
-use Rattle.table.specs.Table.{ownOf}
 use borrow.Author.Needs.{needs}
+use Rattle.table.specs.Table.{ownOf}
 use Rattle.table.proofs.own_of.Statement.{statement}
 use Rattle.table.proofs.own_of.Tie as tie
 
@@ -22,6 +22,18 @@ enum-told-5 c = search needs
 enum-told-6 : tie.Need-enum-told-6
 enum-told-6 c = search needs
 
+enum-told-7 : tie.Need-enum-told-7
+enum-told-7 c = search needs
+
+enum-told-8 : tie.Need-enum-told-8
+enum-told-8 c = search needs
+
+enum-told-9 : tie.Need-enum-told-9
+enum-told-9 c = search needs
+
+enum-told-10 : tie.Need-enum-told-10
+enum-told-10 c = search needs
+
 returns : tie.Need-returns
 unfolding ownOf
 returns c = rw (c .enum-told .given .1)
@@ -40,19 +52,35 @@ returns-4 c = rw (c .enum-told4 .given .1)
 
 returns-5 : tie.Need-returns-5
 unfolding ownOf
-returns-5 c = rw (c .before .enum-told5 .given .1, c .match2 .keys1)
+returns-5 c = rw (c .enum-told5 .given .1)
 
 returns-6 : tie.Need-returns-6
 unfolding ownOf
-returns-6 c = rw (c .before .enum-told5 .given .1, c .match2 .keys2)
+returns-6 c = rw (c .enum-told6 .given .1)
 
 returns-7 : tie.Need-returns-7
 unfolding ownOf
-returns-7 c = rw (c .before .enum-told5 .given .1, ne-eqb _ 9 (c .match2 .rest .0 .1), ne-eqb _ 10 (c .match2 .rest .1))
+returns-7 c = rw (c .before .enum-told7 .given .1, c .match2 .keys1)
 
 returns-8 : tie.Need-returns-8
 unfolding ownOf
-returns-8 c = rw (c .enum-told6 .given .1)
+returns-8 c = rw (c .before .enum-told7 .given .1, c .match2 .keys2)
+
+returns-9 : tie.Need-returns-9
+unfolding ownOf
+returns-9 c = rw (c .before .enum-told7 .given .1, ne-eqb _ 9 (c .match2 .rest .0 .1), ne-eqb _ 10 (c .match2 .rest .1))
+
+returns-10 : tie.Need-returns-10
+unfolding ownOf
+returns-10 c = rw (c .enum-told8 .given .1)
+
+returns-11 : tie.Need-returns-11
+unfolding ownOf
+returns-11 c = rw (c .enum-told9 .given .1)
+
+returns-12 : tie.Need-returns-12
+unfolding ownOf
+returns-12 c = rw (c .enum-told10 .given .1)
 
 pub own-of-spec : {M : Type 1} → statement M
 own-of-spec =
@@ -64,6 +92,10 @@ own-of-spec =
     enum-told-4
     enum-told-5
     enum-told-6
+    enum-told-7
+    enum-told-8
+    enum-told-9
+    enum-told-10
     returns
     returns-2
     returns-3
@@ -71,4 +103,8 @@ own-of-spec =
     returns-5
     returns-6
     returns-7
-    returns-8)
+    returns-8
+    returns-9
+    returns-10
+    returns-11
+    returns-12)

@@ -20,7 +20,7 @@ cast-i : tie.Need-cast-i
 cast-i c = record { fits = laws.within-fits (laws.part-sound (c .before .args .edition) (c .before .args .field) (c .part-of .ensures)) (search needs) }
 
 cell-at-requires : tie.Need-cell-at-requires
-cell-at-requires c κs = search needs
+cell-at-requires c κs = laws.within-cells (laws.part-sound (c .before .args .edition) (c .before .args .field) (c .part-of .ensures)) (search needs)
 
 div-t15 : tie.Need-div-t15
 div-t15 c = (laws.part-sound (c .before .before .args .edition) (c .before .before .args .field) (c .before .part-of .ensures)) .some
