@@ -15,7 +15,7 @@ use Rattle.log.specs.Log.{Layout, checkOf}
 use Rattle.log.specs.declared.Checked.the-variants as checked
 use Rattle.log.specs.declared.Write.{Write}
 use Rattle.vsu.proofs.RangeLaws.{write-keeps}
-use Rattle.vsu.specs.Core.{cycle, inRange, made, write}
+use Rattle.vsu.specs.Core.{cycle, inRange, made, withMutes, write}
 use Rattle.vsu.specs.declared.core.Frame.{Frame}
 use Rattle.vsu.specs.declared.core.Vsu.{Vsu}
 use Rattle.arranger.proofs.ExchangeLaws.{in-range-kinds, may-exchange}
@@ -81,12 +81,13 @@ module _ (w x : Write) (ws : List Write) (due : w .due ≡ x .due) (y : mayExcha
     states-stay (suc t) =
         ap cycle (apply-exchanged vs t (stateAt (one w x ws vs) t) b (state-keeps (one w x ws vs) t b) ∙ ap (applyAt (other w x ws vs) t) (states-stay t))
 
-    frames-of-stay : (a n : ℕ) → framesOf (one w x ws vs) a n ≡ framesOf (other w x ws vs) a n
+    frames-of-stay : (m a n : ℕ) → framesOf (one w x ws vs) m a n ≡ framesOf (other w x ws vs) m a n
     unfolding framesOf
-    frames-of-stay a zero = refl
-    frames-of-stay a (suc n) =
-        ap₂ (λ (fs : List Frame) (u : Vsu). fs ++ made u) (frames-of-stay a n)
+    frames-of-stay m a zero = refl
+    frames-of-stay m a (suc n) =
+        ap₂ (λ (fs : List Frame) (u : Vsu). fs ++ made (withMutes u m)) (frames-of-stay m a n)
         (apply-exchanged vs (a + n) (stateAt (one w x ws vs) (a + n)) b (state-keeps (one w x ws vs) (a + n) b) ∙ ap (applyAt (other w x ws vs) (a + n)) (states-stay (a + n)))
 
-    pub frames-stay : (a c : ℕ) → framesIn (one w x ws vs) a c ≡ framesIn (other w x ws vs) a c
-    frames-stay a c = frames-of-stay a (c - a)
+    -- with any mutes
+    pub frames-stay : (m a c : ℕ) → framesIn (one w x ws vs) m a c ≡ framesIn (other w x ws vs) m a c
+    frames-stay m a c = frames-of-stay m a (c - a)

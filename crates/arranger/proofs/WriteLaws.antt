@@ -53,24 +53,25 @@ writtenBy r b u =
       output = u .output;
       waves = wavesBy r b (u .voices) (u .waves);
       modulation = entriesBy r b (u .voices) (u .modulation);
+      mutes = u .mutes;
     }
 
 pub by-parts : (r : Register) (b : ℕ) (u : Vsu) → writeTo r b u ≡ writtenBy r b u
 unfolding writeTo
 by-parts (Wave at) b u = go (anyPlays (u .voices))
   where
-    go : (p : Bool) → cond p u (record { voices = u .voices; output = u .output; waves = set (u .waves) at (b % 64); modulation = u .modulation }) ≡ record { voices = u .voices; output = u .output; waves = cond p (u .waves) (set (u .waves) at (b % 64)); modulation = u .modulation }
+    go : (p : Bool) → cond p u (record { voices = u .voices; output = u .output; waves = set (u .waves) at (b % 64); modulation = u .modulation; mutes = u .mutes }) ≡ record { voices = u .voices; output = u .output; waves = cond p (u .waves) (set (u .waves) at (b % 64)); modulation = u .modulation; mutes = u .mutes }
     go true = refl
     go false = refl
 by-parts (Modulation at) b u = go (plays (voiceAt 4 (u .voices)))
   where
-    go : (p : Bool) → cond p u (record { voices = u .voices; output = u .output; waves = u .waves; modulation = set (u .modulation) at (signed b) }) ≡ record { voices = u .voices; output = u .output; waves = u .waves; modulation = cond p (u .modulation) (set (u .modulation) at (signed b)) }
+    go : (p : Bool) → cond p u (record { voices = u .voices; output = u .output; waves = u .waves; modulation = set (u .modulation) at (signed b); mutes = u .mutes }) ≡ record { voices = u .voices; output = u .output; waves = u .waves; modulation = cond p (u .modulation) (set (u .modulation) at (signed b)); mutes = u .mutes }
     go true = refl
     go false = refl
 by-parts (Channel k o) b u = refl
 by-parts Stop b u = go (bit 0 b)
   where
-    go : (p : Bool) → cond p (record { voices = map stopVoice (u .voices); output = u .output; waves = u .waves; modulation = u .modulation }) u ≡ record { voices = cond p (map stopVoice (u .voices)) (u .voices); output = u .output; waves = u .waves; modulation = u .modulation }
+    go : (p : Bool) → cond p (record { voices = map stopVoice (u .voices); output = u .output; waves = u .waves; modulation = u .modulation; mutes = u .mutes }) u ≡ record { voices = cond p (map stopVoice (u .voices)) (u .voices); output = u .output; waves = u .waves; modulation = u .modulation; mutes = u .mutes }
     go true = refl
     go false = refl
 by-parts Nothing b u = refl
@@ -86,7 +87,7 @@ module _ (r : Register) (b : ℕ) (s : Register) (d : ℕ) (u : Vsu) where
 
   pub part-by-part : voicesBy s d (voicesBy r b (u .voices)) ≡ voicesBy r b (voicesBy s d (u .voices)) → wavesBy s d (voicesBy r b (u .voices)) (wavesBy r b (u .voices) (u .waves)) ≡ wavesBy r b (voicesBy s d (u .voices)) (wavesBy s d (u .voices) (u .waves)) → entriesBy s d (voicesBy r b (u .voices)) (entriesBy r b (u .voices) (u .modulation)) ≡ entriesBy r b (voicesBy s d (u .voices)) (entriesBy s d (u .voices) (u .modulation)) → EitherOrder
   part-by-part v w m =
-      two-writes r b s d u ∙ (λ j. record { voices = v j; output = u .output; waves = w j; modulation = m j }) ∙ sym (two-writes s d r b u)
+      two-writes r b s d u ∙ (λ j. record { voices = v j; output = u .output; waves = w j; modulation = m j; mutes = u .mutes }) ∙ sym (two-writes s d r b u)
 
   -- and what it tells of the parts
   module _ (e : EitherOrder) where

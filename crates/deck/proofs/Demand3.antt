@@ -1,8 +1,8 @@
--- Demand 3: after any play, seek, set, clear and go-to-mark calls from a fresh opening, refused ones among them, the player stands at
--- the cycle the calls name, in the state that one unbroken run from power-on, cycle by cycle, has there. Each accepted play yields
--- exactly that run's frames in its span.
+-- Demand 3: after any play, seek, set, clear, go-to-mark and mute calls from a fresh opening, refused ones among them, the player
+-- stands at the cycle the calls name, in the state that one unbroken run from power-on, cycle by cycle, has there, all but the mute
+-- bits. Each accepted play yields exactly that run's frames in its span, with the present mutes.
 use Prim.Native.Nat.{ℕ, _+_, _-_, _*_, _/_, _<_, _≤_, suc-le-suc}
-use mathlib.Core.Path.{_≡_, refl, sym, ap, subst, _∙_}
+use mathlib.Core.Path.{_≡_, refl, sym, ap, ap₂, subst, _∙_}
 use mathlib.Core.Bool.{Bool, true, false, cond, not, _||_, true≢false}
 use mathlib.Core.List.{List, [], _∷_, _++_, append-assoc}
 use native.Mathlib.Nat.{zero-add}
@@ -28,18 +28,19 @@ use Rattle.refusal.specs.Refusal.{fault, _then_}
 use Rattle.refusal.specs.declared.Answer.{Answer}
 use Rattle.refusal.specs.declared.Answer.the-variants.{Accepted, Refused}
 use Rattle.refusal.specs.declared.Refusal.{Refusal}
-use Rattle.refusal.specs.declared.Refusal.the-variants.{Room, Place, MarkNumber, MarkUnset, MarksFull}
+use Rattle.refusal.specs.declared.Refusal.the-variants.{Room, Place, MarkNumber, MarkUnset, MarksFull, State}
 use Rattle.refusal.proofs.RefusalLaws.{passed, was-sound}
-use Rattle.vsu.specs.Core.{allAtMost, framesDue, inRange, sides, unitAnswer}
+use Rattle.vsu.specs.Core.{allAtMost, framesDue, inRange, powerOn, sides, unitAnswer, withMutes}
+use Rattle.vsu.specs.declared.core.Frame.{Frame}
 use Rattle.vsu.specs.declared.core.Vsu.{Vsu}
 use Rattle.vsu.proofs.RangeLaws.{range-facts, small-at}
-use Rattle.deck.specs.Calls.{AllSpare, Call, Deck, InRun, Named, Spares, after, afterAll, answerAt, answerOf, atStart, namedAll, namedBy, names, opened, setNow, yields, yieldsCount, yieldsCounts, yieldsEntries}
-use Rattle.deck.specs.Calls.Call.{play, seek, setMark, setFree, clear, goTo}
-use Rattle.deck.specs.Player.{appliedPlace, clearAnswer, clearOf, fresh, goToAnswer, goToOf, imagePlace, inSlot, lengthIn, marked, memorySize, misplaced, movedOn, openOf, playAnswer, playBy, playOf, restarted, seekAnswer, seekOf, setAnswer, setBy, slotApplied, slotCycle, slotImage, slotOf, slotPlace, slotSize, soughtFrom, standingAnswer, turnBy, withMarks, writesIn}
+use Rattle.deck.specs.Calls.{AllSpare, Call, Deck, InRun, Named, Spares, after, afterAll, answerAt, answerOf, atCycle, atStart, namedAll, namedBy, names, opened, setNow, yields, yieldsCount, yieldsCounts, yieldsEntries}
+use Rattle.deck.specs.Calls.Call.{play, seek, setMark, setFree, clear, goTo, mute}
+use Rattle.deck.specs.Player.{appliedPlace, clearAnswer, clearOf, fresh, goToAnswer, goToOf, imagePlace, inSlot, lengthIn, marked, memorySize, misplaced, movedOn, muteAnswer, muteOf, muted, openOf, playAnswer, playBy, playOf, restarted, seekAnswer, seekOf, setAnswer, setBy, slotApplied, slotCycle, slotImage, slotOf, slotPlace, slotSize, soughtFrom, standingAnswer, turnBy, withMarks, writesIn}
 use Rattle.deck.specs.Unbroken.{countsOf, framesIn, framesOn, inAll, momentsIn, momentsOn, stateAt}
 use Rattle.deck.specs.declared.Player.{Player}
-use Rattle.deck.proofs.PlayerLaws.{clear-passed, go-to-passed, image-sound, play-passed, seek-passed, set-passed}
-use Rattle.deck.proofs.UnbrokenLaws.{bytes-of, due-most, due-none, frames-on-length, frames-span, in-all, moments-on-length, moments-span, state-add, state-keeps, state-run}
+use Rattle.deck.proofs.PlayerLaws.{clear-passed, go-to-passed, image-sound, mute-passed, play-passed, seek-passed, set-passed}
+use Rattle.deck.proofs.UnbrokenLaws.{bytes-of, counts-span, due-most, due-none, frames-on-length, frames-span, in-all, moments-on-length, moments-span, run-on-mutes, state-add-mutes, state-keeps-muted, state-run}
 
 -- "it writes only that slot"
 pub other-slot : (l : List ℕ) (j k : ℕ) (vs : List ℕ) → length vs ≡ slotSize → (j ≡ k → ⊥) → take slotSize (drop (slotPlace j) (sets l (slotPlace k) vs)) ≡ take slotSize (drop (slotPlace j) l)
@@ -66,8 +67,12 @@ module _ (b : List ℕ) (small : allAtMost 255 b ≡ true) (log : logAnswer edit
   unfolding checkOf
   checked-as = rw log
 
-  ranged : (t : ℕ) → inRange (stateAt ws t) ≡ true
-  ranged t = state-keeps ws t (bytes-of b small (countOf b) 0)
+  -- the run at cycle t, with mutes
+  abbrev unitAt : ℕ → ℕ → Vsu
+  unitAt t x = withMutes (stateAt ws t) x
+
+  ranged : (t x : ℕ) → x ≤ 63 → inRange (unitAt t x) ≡ true
+  ranged t x = state-keeps-muted ws t x (bytes-of b small (countOf b) 0)
 
   cycles-below : cycles < 4294967296
   cycles-below = front-below 4 (drop 12 b) (λ i. rw (getD-drop 12 b i 0) (suc-le-suc (small-at 255 b small (12 + i))))
@@ -76,14 +81,16 @@ module _ (b : List ℕ) (small : allAtMost 255 b ≡ true) (log : logAnswer edit
   due-below t =
       omega (arith, due-most ws t, writes-length edition1 b (countOf b) 0, accepted edition1 b (countOf b) cycles checked-as .most)
 
-  -- what a slot holds that was set at cycle t
-  abbrev slotAt : ℕ → List ℕ
-  slotAt t = bytes 4 t ++ (bytes 4 (dueBefore ws t) ++ imageOf newest (stateAt ws t))
+  -- what a slot holds that was set at cycle t, with mutes
+  abbrev slotAt : ℕ → ℕ → List ℕ
+  slotAt t x = bytes 4 t ++ (bytes 4 (dueBefore ws t) ++ imageOf newest (unitAt t x))
 
   pub record Kept (memory : List ℕ) (k t : ℕ) : Type 0 where
+    pub mutes : ℕ
+    pub few : mutes ≤ 63
     pub room : memorySize ≤ length memory
     pub within : t ≤ cycles
-    pub slot : take slotSize (drop (slotPlace k) memory) ≡ slotAt t
+    pub slot : take slotSize (drop (slotPlace k) memory) ≡ slotAt t mutes
 
   -- the opening of an accepted log is the record that the decks start from
   pub opens : openOf b ≡ record { player = fresh; answer = Accepted }
@@ -96,22 +103,25 @@ module _ (b : List ℕ) (small : allAtMost 255 b ≡ true) (log : logAnswer edit
     abbrev size : ℕ
     size = length memory
 
-    -- The invariant: the record stands in the run at the cycle named, and every set mark's slot holds the run at the cycle of its setting.
+    -- The invariant: the record stands in the run at the cycle named, with the mutes named, and every set mark's slot holds the run at the
+    -- cycle of its setting, with mutes that no go-to takes.
     pub record Holds (d : Deck) (m : Named) : Type 0 where
       pub cycle : d .player .cycle ≡ m .cycle
       pub within : m .cycle ≤ cycles
-      pub unit : d .player .unit ≡ stateAt ws (m .cycle)
+      pub few : m .mutes ≤ 63
+      pub unit : d .player .unit ≡ unitAt (m .cycle) (m .mutes)
       pub applied : d .player .applied ≡ dueBefore ws (m .cycle)
       pub marks : d .player .marks ≡ m .marks
       pub sized : length (d .memory) ≡ size
       pub kept : (k : ℕ) → k ≤ 15 → isSet k (d .player .marks) ≡ true → Kept (d .memory) k (m .mark k)
 
     start-holds : Holds (opened memory) atStart
-    unfolding stateAt
+    unfolding stateAt powerOn
     start-holds =
         record {
           cycle = refl;
           within = omega arith;
+          few = omega arith;
           unit = refl;
           applied = sym (due-none ws);
           marks = refl;
@@ -125,29 +135,34 @@ module _ (b : List ℕ) (small : allAtMost 255 b ≡ true) (log : logAnswer edit
 
       stands : standingAnswer p b ≡ Accepted
       unfolding standingAnswer unitAnswer misplaced fault _then_
-      stands = rw (log, h .unit, ranged (m .cycle), h .cycle, h .applied, le-leb _ _ (h .within), eq-eqb (dueBefore ws (m .cycle)) _ refl)
+      stands = rw (log, h .unit, ranged (m .cycle) (m .mutes) (h .few), h .cycle, h .applied, le-leb _ _ (h .within), eq-eqb (dueBefore ws (m .cycle)) _ refl)
 
       -- the record moved on
-      moved-on : (n : ℕ) → m .cycle + n ≤ cycles → Holds (record { player = movedOn ws p n; memory = d .memory }) (record { cycle = m .cycle + n; marks = m .marks; mark = m .mark })
+      moved-on : (n : ℕ) → m .cycle + n ≤ cycles → Holds (record { player = movedOn ws p n; memory = d .memory }) (atCycle (m .cycle + n) m)
       unfolding movedOn
       moved-on n l =
           record {
             cycle = rw (h .cycle);
             within = l;
-            unit = rw (h .cycle, h .unit) (sym (state-add ws (m .cycle) n));
+            few = h .few;
+            unit = rw (h .cycle, h .unit) (sym (state-add-mutes ws (m .mutes) (m .cycle) n));
             applied = rw (h .cycle);
             marks = h .marks;
             sized = h .sized;
             kept = h .kept;
           }
 
-      from-start : (t : ℕ) → t ≤ cycles → Holds (record { player = movedOn ws (restarted p) t; memory = d .memory }) (record { cycle = t; marks = m .marks; mark = m .mark })
+      mutes-named : p .unit .mutes ≡ m .mutes
+      mutes-named = ap (λ (u : Vsu). u .mutes) (h .unit)
+
+      from-start : (t : ℕ) → t ≤ cycles → Holds (record { player = movedOn ws (restarted p) t; memory = d .memory }) (atCycle t m)
       unfolding movedOn
       from-start t l =
           record {
             cycle = zero-add t;
             within = l;
-            unit = sym (state-run ws t);
+            few = h .few;
+            unit = rw mutes-named (run-on-mutes (m .mutes) ws 0 powerOn t ∙ ap (λ (u : Vsu). withMutes u (m .mutes)) (sym (state-run ws t)));
             applied = rw (zero-add t);
             marks = h .marks;
             sized = h .sized;
@@ -186,7 +201,7 @@ module _ (b : List ℕ) (small : allAtMost 255 b ≡ true) (log : logAnswer edit
           ways (λ (q : Player). Left (seek t) Accepted q (d .memory)) (leb (p .cycle) t)
           (λ g.
           let e : m .cycle + (t - p .cycle) ≡ t = omega (arith, leb-true (p .cycle) t g, h .cycle) in
-          subst (λ (c : ℕ). Holds (record { player = movedOn ws p (t - p .cycle); memory = d .memory }) (record { cycle = c; marks = m .marks; mark = m .mark })) e
+          subst (λ (c : ℕ). Holds (record { player = movedOn ws p (t - p .cycle); memory = d .memory }) (atCycle c m)) e
           (moved-on (t - p .cycle) (rw e l)))
           (λ _. from-start t l)
 
@@ -201,6 +216,7 @@ module _ (b : List ℕ) (small : allAtMost 255 b ≡ true) (log : logAnswer edit
           record {
             cycle = h .cycle;
             within = h .within;
+            few = h .few;
             unit = h .unit;
             applied = h .applied;
             marks = ap (withoutMark k) (h .marks);
@@ -213,9 +229,28 @@ module _ (b : List ℕ) (small : allAtMost 255 b ≡ true) (log : logAnswer edit
       clear-holds : (k : ℕ) → Left (clear k) (clearAnswer p k) (clearOf p k .player) (d .memory)
       clear-holds k = turn-holds (clear k) (clearAnswer p k) (withMarks p (withoutMark k (p .marks))) (λ e. cleared k (clear-passed p k e))
 
+      -- Mute.
+
+      now-muted : (bits : ℕ) → bits ≤ 63 → Left (mute bits) Accepted (muted p bits) (d .memory)
+      unfolding namedBy names
+      now-muted bits l =
+          record {
+            cycle = h .cycle;
+            within = h .within;
+            few = l;
+            unit = ap (λ (u : Vsu). withMutes u bits) (h .unit);
+            applied = h .applied;
+            marks = h .marks;
+            sized = h .sized;
+            kept = h .kept;
+          }
+
+      mute-holds : (bits : ℕ) → Left (mute bits) (muteAnswer p bits) (muteOf p bits .player) (d .memory)
+      mute-holds bits = turn-holds (mute bits) (muteAnswer p bits) (muted p bits) (λ e. now-muted bits (mute-passed p bits e))
+
       -- Set, of a slot named or of the lowest free one.
 
-      slot-is : slotOf p ≡ slotAt (m .cycle)
+      slot-is : slotOf p ≡ slotAt (m .cycle) (m .mutes)
       slot-is = rw (h .cycle, h .applied, h .unit)
 
       slot-length : length (slotOf p) ≡ slotSize
@@ -233,6 +268,8 @@ module _ (b : List ℕ) (small : allAtMost 255 b ≡ true) (log : logAnswer edit
         stored-kept : (j : ℕ) → j ≤ 15 → (t : Bool) → eqb j k ≡ t → (t || isSet j (p .marks)) ≡ true → Kept stored j (cond t (m .cycle) (m .mark j))
         stored-kept j g true e s =
             record {
+              mutes = m .mutes;
+              few = h .few;
               room = stored-room;
               within = h .within;
               slot = rw (eqb-true j k e) (sets-there (d .memory) (slotPlace k) slotSize (slotOf p) slot-length (omega arith) ∙ slot-is);
@@ -240,6 +277,8 @@ module _ (b : List ℕ) (small : allAtMost 255 b ≡ true) (log : logAnswer edit
         stored-kept j g false e s =
             let o : Kept (d .memory) j (m .mark j) = h .kept j g s in
             record {
+              mutes = o .mutes;
+              few = o .few;
               room = stored-room;
               within = o .within;
               slot = other-slot (d .memory) j k (slotOf p) slot-length (eqb-false j k e) ∙ o .slot;
@@ -250,6 +289,7 @@ module _ (b : List ℕ) (small : allAtMost 255 b ≡ true) (log : logAnswer edit
             record {
               cycle = h .cycle;
               within = h .within;
+              few = h .few;
               unit = h .unit;
               applied = h .applied;
               marks = ap (withMark k) (h .marks);
@@ -277,7 +317,7 @@ module _ (b : List ℕ) (small : allAtMost 255 b ≡ true) (log : logAnswer edit
         rest = drop slotSize (drop (slotPlace k) (d .memory))
 
         abbrev image : List ℕ
-        image = imageOf newest (stateAt ws t)
+        image = imageOf newest (unitAt t (o .mutes))
 
         from-slot : drop (slotPlace k) (d .memory) ≡ bytes 4 t ++ (bytes 4 (dueBefore ws t) ++ (image ++ rest))
         from-slot =
@@ -304,19 +344,19 @@ module _ (b : List ℕ) (small : allAtMost 255 b ≡ true) (log : logAnswer edit
         applied-back = rw from-applied (front-bytes 4 (dueBefore ws t) (image ++ rest) (due-below t))
 
         image-back : slotImage (d .memory) k ≡ image
-        image-back = rw from-image (take-at image rest (slotSize - imagePlace) (image-420 (stateAt ws t)))
+        image-back = rw from-image (take-at image rest (slotSize - imagePlace) (image-420 (unitAt t (o .mutes))))
 
         -- the record that it leads to
         abbrev there : Player
-        there = record { unit = stateAt ws t; cycle = t; applied = dueBefore ws t; marks = p .marks }
+        there = record { unit = unitAt t (p .unit .mutes); cycle = t; applied = dueBefore ws t; marks = p .marks }
 
         recalls : inSlot p (d .memory) k ≡ there
         unfolding inSlot
-        recalls = rw (image-back, reads-back (stateAt ws t) (ranged t), cycle-back, applied-back)
+        recalls = rw (image-back, reads-back (unitAt t (o .mutes)) (ranged t (o .mutes) (o .few)), cycle-back, applied-back)
 
         -- none of the slot's own faults
-        sound-image : readAnswer newest (slotImage (d .memory) k) ≡ Accepted
-        sound-image = rw image-back (image-sound (stateAt ws t) (ranged t))
+        sound-image : readAnswer (slotImage (d .memory) k) ≡ Accepted
+        sound-image = rw image-back (image-sound (unitAt t (o .mutes)) (ranged t (o .mutes) (o .few)))
 
         sound-place : misplaced b (slotCycle (d .memory) k) (slotApplied (d .memory) k) ≡ false
         unfolding misplaced
@@ -329,7 +369,8 @@ module _ (b : List ℕ) (small : allAtMost 255 b ≡ true) (log : logAnswer edit
           (record {
             cycle = refl;
             within = o .within;
-            unit = refl;
+            few = h .few;
+            unit = ap (unitAt (m .mark k)) mutes-named;
             applied = refl;
             marks = h .marks;
             sized = h .sized;
@@ -343,27 +384,33 @@ module _ (b : List ℕ) (small : allAtMost 255 b ≡ true) (log : logAnswer edit
 
       -- What a play leaves in its buffer.
 
-      output-below : stateAt ws (m .cycle) .output ≤ 479
-      output-below = range-facts (stateAt ws (m .cycle)) (ranged (m .cycle)) .output
+      abbrev present : Vsu
+      present = unitAt (m .cycle) (m .mutes)
 
-      span-length : (n : ℕ) → length (framesIn ws (m .cycle) (m .cycle + n)) ≡ framesDue (stateAt ws (m .cycle)) n
-      span-length n = rw (frames-span ws (m .cycle) n) (frames-on-length ws (m .cycle) (stateAt ws (m .cycle)) output-below n)
+      output-below : present .output ≤ 479
+      output-below = range-facts present (ranged (m .cycle) (m .mutes) (h .few)) .output
 
-      spanned : (n : ℕ) (out : List ℤ) → sides (framesOn ws (p .cycle) (p .unit) n) ++ drop (framesDue (p .unit) n * 2) out ≡ sides (framesIn ws (m .cycle) (m .cycle + n)) ++ drop (length (framesIn ws (m .cycle) (m .cycle + n)) * 2) out
-      spanned n out = rw (span-length n, frames-span ws (m .cycle) n, h .cycle, h .unit)
+      abbrev span : ℕ → List Frame
+      span n = framesIn ws (m .mutes) (m .cycle) (m .cycle + n)
 
-      play-yields : (n : ℕ) (out : List ℤ) (a : Answer) → playBy a p n b out .out ≡ yields ws (m .cycle) a n out
+      span-length : (n : ℕ) → length (span n) ≡ framesDue present n
+      span-length n = rw (frames-span ws (m .mutes) (m .cycle) n) (frames-on-length ws (m .cycle) present output-below n)
+
+      spanned : (n : ℕ) (out : List ℤ) → sides (framesOn ws (p .cycle) (p .unit) n) ++ drop (framesDue (p .unit) n * 2) out ≡ sides (span n) ++ drop (length (span n) * 2) out
+      spanned n out = rw (span-length n, frames-span ws (m .mutes) (m .cycle) n, h .cycle, h .unit)
+
+      play-yields : (n : ℕ) (out : List ℤ) (a : Answer) → playBy a p n b out .out ≡ yields ws (m .mutes) (m .cycle) a n out
       unfolding playBy yields
       play-yields n out Accepted = spanned n out
       play-yields n out (Refused why) = refl
 
-      play-counts : (n : ℕ) (out : List ℤ) (a : Answer) → playBy a p n b out .played .frames ≡ yieldsCount ws (m .cycle) a n
+      play-counts : (n : ℕ) (out : List ℤ) (a : Answer) → playBy a p n b out .played .frames ≡ yieldsCount ws (m .mutes) (m .cycle) a n
       unfolding playBy yieldsCount
       play-counts n out Accepted = ap (λ (u : Vsu). framesDue u n) (h .unit) ∙ sym (span-length n)
       play-counts n out (Refused why) = refl
 
       span-counts : (n : ℕ) → countsOf (momentsOn ws (p .cycle) (p .unit) n) ≡ countsOf (momentsIn ws (m .cycle) (m .cycle + n))
-      span-counts n = rw (moments-span ws (m .cycle) n, h .cycle, h .unit)
+      span-counts n = rw (h .cycle, h .unit) (counts-span ws (m .mutes) (m .cycle) n)
 
       play-sorts : (n : ℕ) (out : List ℤ) (a : Answer) → playBy a p n b out .played .counts ≡ yieldsCounts ws (m .cycle) a n
       unfolding playBy yieldsCounts
@@ -393,7 +440,11 @@ module _ (b : List ℕ) (small : allAtMost 255 b ≡ true) (log : logAnswer edit
 
       clear-answer : (k : ℕ) → clearAnswer p k ≡ answerAt ws cycles size (clear k) m
       unfolding clearAnswer unitAnswer answerAt fault _then_
-      clear-answer k = rw (h .unit, ranged (m .cycle), h .marks)
+      clear-answer k = rw (h .unit, ranged (m .cycle) (m .mutes) (h .few), h .marks)
+
+      mute-answer : (bits : ℕ) → muteAnswer p bits ≡ answerAt ws cycles size (mute bits) m
+      unfolding muteAnswer unitAnswer answerAt fault _then_
+      mute-answer bits = rw (h .unit, ranged (m .cycle) (m .mutes) (h .few))
 
       go-to-answer : (k : ℕ) → goToAnswer p k b (d .memory) ≡ answerAt ws cycles size (goTo k) m
       unfolding goToAnswer answerAt fault _then_
@@ -401,7 +452,7 @@ module _ (b : List ℕ) (small : allAtMost 255 b ≡ true) (log : logAnswer edit
           rw (stands, h .sized, sym (h .marks)) (go (ltb size memorySize) (ltb 15 k) (isSet k (p .marks)) refl refl)
         where
           last : Answer
-          last = readAnswer newest (slotImage (d .memory) k) then fault (misplaced b (slotCycle (d .memory) k) (slotApplied (d .memory) k)) Place
+          last = readAnswer (slotImage (d .memory) k) then fault (misplaced b (slotCycle (d .memory) k) (slotApplied (d .memory) k)) Place
 
           go : (r l s : Bool) → ltb 15 k ≡ l → isSet k (p .marks) ≡ s → (fault r Room then fault l MarkNumber then fault (not s) MarkUnset then last) ≡ (fault r Room then fault l MarkNumber then fault (not s) MarkUnset)
           go true l s _ _ = refl
@@ -417,6 +468,7 @@ module _ (b : List ℕ) (small : allAtMost 255 b ≡ true) (log : logAnswer edit
       answers setFree = set-answer MarksFull (lowestFree (p .marks)) ∙ rw (h .marks)
       answers (clear k) = clear-answer k
       answers (goTo k) = go-to-answer k
+      answers (mute bits) = mute-answer bits
 
       sorts : (n : ℕ) (out : List ℤ) → playOf p n b out .played .counts ≡ yieldsCounts ws (m .cycle) (answerAt ws cycles size (play n out) m) n
       sorts n out = rw (play-answer n out) (play-sorts n out (answerAt ws cycles size (play n out) m))
@@ -444,6 +496,7 @@ module _ (b : List ℕ) (small : allAtMost 255 b ≡ true) (log : logAnswer edit
     answered-holds setFree d m h = set-holds d m h setFree MarksFull (lowestFree (d .player .marks)) (ap (λ (i : ℕ). setNow (lowestFree i) m) (sym (h .marks)))
     answered-holds (clear k) d m h = clear-holds d m h k
     answered-holds (goTo k) d m h = go-to-holds d m h k
+    answered-holds (mute bits) d m h = mute-holds d m h bits
 
     -- what the calls name after one more
     abbrev next : Call → Named → Named
@@ -477,15 +530,19 @@ module _ (b : List ℕ) (small : allAtMost 255 b ≡ true) (log : logAnswer edit
     unfolding namedBy
     goes-on c d m h a = subst (λ (r : Answer). Holds (after b c d) (namedBy r c m)) a (step-holds c d m h)
 
-    -- wherever the deck stands, a seek to t and a play of n yield what the unbroken run yields from t to t + n, where L and the buffer
-    -- have room for it
-    pub jump-back : (cs : List Call) (t n : ℕ) (out : List ℤ) → t + n ≤ cycles → length (framesIn ws t (t + n)) ≤ length out / 2 → (answerOf b (play n out) (after b (seek t) (deckOf cs)) ≡ Accepted) × (playOf (after b (seek t) (deckOf cs) .player) n b out .out ≡ sides (framesIn ws t (t + n)) ++ drop (length (framesIn ws t (t + n)) * 2) out)
+    -- the run's frames from t to t + n, with the mutes that the calls have named
+    abbrev jumped : List Call → ℕ → ℕ → List Frame
+    jumped cs t n = framesIn ws (namedOf cs .mutes) t (t + n)
+
+    -- wherever the deck stands, a seek to t and a play of n yield what the unbroken run yields from t to t + n with the present mutes,
+    -- where L and the buffer have room for it
+    pub jump-back : (cs : List Call) (t n : ℕ) (out : List ℤ) → t + n ≤ cycles → length (jumped cs t n) ≤ length out / 2 → (answerOf b (play n out) (after b (seek t) (deckOf cs)) ≡ Accepted) × (playOf (after b (seek t) (deckOf cs) .player) n b out .out ≡ sides (jumped cs t n) ++ drop (length (jumped cs t n) * 2) out)
     unfolding answerAt names yields fault _then_
     jump-back cs t n out l r =
         let m : Named = namedOf cs in
         let a : answerAt ws cycles size (seek t) m ≡ Accepted = rw (le-ltb cycles t (omega arith)) in
         let s = in-run _ _ (goes-on (seek t) (deckOf cs) m (reached cs) a) in
-        let e : answerAt ws cycles size (play n out) (names (seek t) m) ≡ Accepted = rw (le-ltb cycles (t + n) l, le-leb (length (framesIn ws t (t + n))) (length out / 2) r) in
+        let e : answerAt ws cycles size (play n out) (names (seek t) m) ≡ Accepted = rw (le-ltb cycles (t + n) l, le-leb (length (jumped cs t n)) (length out / 2) r) in
         (s .answers (play n out) ∙ e, rw e at (s .plays n out))
 
     -- A set mark that a call spares stays set, and at its cycle.
@@ -517,6 +574,7 @@ module _ (b : List ℕ) (small : allAtMost 255 b ≡ true) (log : logAnswer edit
       name-spares setFree f m s = beside m s (lowestFree (m .marks)) (λ e. true≢false (sym s ∙ ap (λ (i : ℕ). isSet i (m .marks)) e ∙ lowest-unset (m .marks) (subst (λ (i : ℕ). i ≤ 15) e l)))
       name-spares (clear j) f m s = (without m s j f, refl)
       name-spares (goTo j) f m s = (s, refl)
+      name-spares (mute bits) f m s = (s, refl)
 
       next-spares : (c : Call) → Spares k c → (m : Named) → isSet k (m .marks) ≡ true → (a : Answer) → Stays m (namedBy a c m)
       unfolding namedBy
@@ -540,10 +598,11 @@ module _ (b : List ℕ) (small : allAtMost 255 b ≡ true) (log : logAnswer edit
       abbrev back : Deck
       back = afterAll b es (after b c before)
 
+      -- at the cycle and in the state of the set, all but the mutes, which are those before the go-to
       abbrev Returned : Type 0
       Returned =
           (answerOf b (goTo k) back ≡ Accepted)
-          × ((after b (goTo k) back .player .cycle ≡ before .player .cycle) × (after b (goTo k) back .player .unit ≡ before .player .unit))
+          × ((after b (goTo k) back .player .cycle ≡ before .player .cycle) × (after b (goTo k) back .player .unit ≡ withMutes (before .player .unit) (back .player .unit .mutes)))
 
       -- the go-to is accepted and stands where the deck stood
       returns : names c (namedOf cs) ≡ setNow k (namedOf cs) → answerAt ws cycles size c (namedOf cs) ≡ Accepted → k ≤ 15 → memorySize ≤ size → Returned
@@ -559,7 +618,7 @@ module _ (b : List ℕ) (small : allAtMost 255 b ≡ true) (log : logAnswer edit
           let z : Holds back q = all-hold es _ _ h in
           let t = goes-on (goTo k) back q z w in
           let n : q .mark k ≡ m .cycle = g .1 ∙ rw (eq-eqb k k refl) in
-          (in-run _ _ z .answers (goTo k) ∙ w, (t .cycle ∙ n ∙ sym (o .cycle), t .unit ∙ ap (stateAt ws) n ∙ sym (o .unit)))
+          (in-run _ _ z .answers (goTo k) ∙ w, (t .cycle ∙ n ∙ sym (o .cycle), t .unit ∙ ap₂ unitAt n (sym (ap (λ (u : Vsu). u .mutes) (z .unit))) ∙ ap (λ (u : Vsu). withMutes u (back .player .unit .mutes)) (sym (o .unit))))
 
     -- room for the marks, and a slot of the sixteen
     room-and-slot : (k : ℕ) (above : Refusal) → (fault (ltb size memorySize) Room then fault (ltb 15 k) above) ≡ Accepted → (memorySize ≤ size) × (k ≤ 15)
@@ -584,10 +643,10 @@ module _ (b : List ℕ) (small : allAtMost 255 b ≡ true) (log : logAnswer edit
         let t = room-and-slot (lowestFree (namedOf cs .marks)) MarksFull e in
         returns cs es setFree k f (ap (λ (n : ℕ). setNow n (namedOf cs)) j) e (subst (λ (n : ℕ). n ≤ 15) j (t .1)) (t .0)
 
-  -- two ways to one cycle end in one state
-  pub one-cycle-one-state : (memory memory′ : List ℕ) (cs cs′ : List Call) → deckOf memory cs .player .cycle ≡ deckOf memory′ cs′ .player .cycle → (deckOf memory cs .player .unit ≡ deckOf memory′ cs′ .player .unit) × (deckOf memory cs .player .applied ≡ deckOf memory′ cs′ .player .applied)
+  -- two ways to one cycle end in one state, all but the mutes
+  pub one-cycle-one-state : (memory memory′ : List ℕ) (cs cs′ : List Call) → deckOf memory cs .player .cycle ≡ deckOf memory′ cs′ .player .cycle → ((x : ℕ) → withMutes (deckOf memory cs .player .unit) x ≡ withMutes (deckOf memory′ cs′ .player .unit) x) × (deckOf memory cs .player .applied ≡ deckOf memory′ cs′ .player .applied)
   one-cycle-one-state memory memory′ cs cs′ e =
       let h = demand-3 memory cs in
       let g = demand-3 memory′ cs′ in
       let c : namedOf memory cs .cycle ≡ namedOf memory′ cs′ .cycle = sym (h .cycle) ∙ e ∙ g .cycle in
-      (h .unit ∙ ap (stateAt ws) c ∙ sym (g .unit), h .applied ∙ ap (dueBefore ws) c ∙ sym (g .applied))
+      (λ x. ap (λ (u : Vsu). withMutes u x) (h .unit) ∙ ap (λ (t : ℕ). unitAt t x) c ∙ ap (λ (u : Vsu). withMutes u x) (sym (g .unit)), h .applied ∙ ap (dueBefore ws) c ∙ sym (g .applied))

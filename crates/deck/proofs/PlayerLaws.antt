@@ -24,7 +24,7 @@ use Rattle.table.specs.Table.{newest}
 use Rattle.vsu.specs.Core.{fitsIn, framesDue, inRange, unitAnswer}
 use Rattle.vsu.specs.declared.core.Vsu.{Vsu}
 use Rattle.image.specs.declared.Loaded.{Loaded}
-use Rattle.deck.specs.Player.{clearAnswer, goToAnswer, imagePlace, lengthIn, memorySize, misplaced, playAnswer, seekAnswer, setAnswer, slotImage, slotPlace, slotSize, standingAnswer, writesIn}
+use Rattle.deck.specs.Player.{clearAnswer, goToAnswer, imagePlace, lengthIn, memorySize, misplaced, muteAnswer, playAnswer, seekAnswer, setAnswer, slotImage, slotPlace, slotSize, standingAnswer, writesIn}
 use Rattle.deck.specs.declared.Player.{Player}
 
 -- 13
@@ -85,12 +85,17 @@ clear-passed p slot h =
     let r = passed (not (inRange (p .unit))) State h in
     ltb-false 15 slot (passed (ltb 15 slot) MarkNumber (r .1) .0)
 
+pub mute-passed : (p : Player) (bits : ℕ) → muteAnswer p bits ≡ Accepted → bits ≤ 63
+unfolding muteAnswer unitAnswer
+mute-passed p bits h =
+    let r = passed (not (inRange (p .unit))) State h in ltb-false 63 bits (was-sound (ltb 63 bits) State (r .1))
+
 -- the image of a state in range is read without a fault
-pub image-sound : (u : Vsu) → inRange u ≡ true → readAnswer newest (imageOf newest u) ≡ Accepted
+pub image-sound : (u : Vsu) → inRange u ≡ true → readAnswer (imageOf newest u) ≡ Accepted
 image-sound u h = sym (read-answer (imageOf newest u)) ∙ ap (λ (l : Loaded). l .answer) (reads-back u h)
 
 -- a slot's image has its bytes: of the image's refusals, 9 is none of a slot's
-pub slot-not-9 : (slot : ℕ) (memory : List ℕ) → memorySize ≤ length memory → slot ≤ 15 → answerNumber (readAnswer newest (slotImage memory slot)) ≡ 9 → ⊥
+pub slot-not-9 : (slot : ℕ) (memory : List ℕ) → memorySize ≤ length memory → slot ≤ 15 → answerNumber (readAnswer (slotImage memory slot)) ≡ 9 → ⊥
 slot-not-9 slot memory h g =
     not-9 (slotImage memory slot)
     (length-take-le (slotSize - imagePlace) (drop (slotPlace slot + imagePlace) memory) (omega (arith, length-drop (slotPlace slot + imagePlace) memory, h, g)))

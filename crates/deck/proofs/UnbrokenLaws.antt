@@ -11,13 +11,14 @@ use lib.ListN.{getD, length, length-append}
 use Rattle.laws.proofs.Cases.{ways}
 use Rattle.log.specs.Log.{dueBefore, edition1, entryPlace, writeAt, writesFrom}
 use Rattle.log.specs.declared.Write.{Write}
+use Rattle.vsu.proofs.MutesLaws.{cycle-mutes, mutes-keep, write-mutes}
 use Rattle.vsu.proofs.RangeLaws.{cycle-keeps, power-on-in-range, small-at, write-keeps}
 use Rattle.vsu.proofs.RunLaws.{frames-length, output-at}
 use Rattle.common.specs.Bits.{bit}
 use Rattle.six.specs.Core.{anyPlays, plays, voiceAt}
 use Rattle.vsu.proofs.CoreLaws.{says-accepted}
 use Rattle.refusal.specs.declared.Answer.the-variants.{Accepted}
-use Rattle.vsu.specs.Core.{allAtMost, cycle, decodeOf, frames, framesDue, inRange, made, powerOn, run, saidAnswer, says, write, writeTo}
+use Rattle.vsu.specs.Core.{allAtMost, cycle, decodeOf, frames, framesDue, inRange, made, powerOn, run, saidAnswer, says, withMutes, write, writeTo}
 use Rattle.vsu.specs.declared.core.Said.{Said}
 use Rattle.vsu.specs.declared.core.Said.the-variants as said
 use Rattle.vsu.specs.declared.core.Frame.{Frame}
@@ -98,6 +99,55 @@ moment-is (v ∷ vs) w ws t u e = go (eqb (v .due) t) (λ x. moment-is vs w ws t
     go true r = ap (λ (ms : List Moment). atMoment v u ∷ ms) (r (write (v .address) (v .byte) u))
     go false r = r u
 
+pub counts-append : (sort : Said → Bool) (ms ns : List Moment) → howMany sort (ms ++ ns) ≡ howMany sort ms + howMany sort ns
+unfolding howMany
+counts-append sort [] ns = omega arith
+counts-append sort (m ∷ ms) ns = omega (arith, counts-append sort ms ns)
+
+-- "all else moves as if unmuted": the writes due and the cycles of a span commute with setting the mutes, and each entry says what it
+-- says without
+
+module _ (m : ℕ) where
+  written-mutes : (w : Write) (t : ℕ) (u : Vsu) → cond (eqb (w .due) t) (write (w .address) (w .byte) (withMutes u m)) (withMutes u m) ≡ withMutes (cond (eqb (w .due) t) (write (w .address) (w .byte) u) u) m
+  written-mutes w t u = go (eqb (w .due) t)
+    where
+      go : (e : Bool) → cond e (write (w .address) (w .byte) (withMutes u m)) (withMutes u m) ≡ withMutes (cond e (write (w .address) (w .byte) u) u) m
+      go true = write-mutes u m (w .address) (w .byte)
+      go false = refl
+
+  pub apply-mutes : (ws : List Write) (t : ℕ) (u : Vsu) → applyAt ws t (withMutes u m) ≡ withMutes (applyAt ws t u) m
+  unfolding applyAt
+  apply-mutes [] t u = refl
+  apply-mutes (w ∷ ws) t u = ap (applyAt ws t) (written-mutes w t u) ∙ apply-mutes ws t _
+
+  pub run-on-mutes : (ws : List Write) (c : ℕ) (u : Vsu) (n : ℕ) → runOn ws c (withMutes u m) n ≡ withMutes (runOn ws c u n) m
+  unfolding runOn
+  run-on-mutes ws c u zero = refl
+  run-on-mutes ws c u (suc n) =
+      ap (λ (v : Vsu). cycle (applyAt ws (c + n) v)) (run-on-mutes ws c u n)
+      ∙ ap cycle (apply-mutes ws (c + n) (runOn ws c u n))
+      ∙ cycle-mutes (applyAt ws (c + n) (runOn ws c u n)) m
+
+  module _ (sort : Said → Bool) where
+    said-mutes : (ws : List Write) (t : ℕ) (u : Vsu) → howMany sort (momentsAt ws t (withMutes u m)) ≡ howMany sort (momentsAt ws t u)
+    unfolding momentsAt howMany
+    said-mutes [] t u = refl
+    said-mutes (w ∷ ws) t u = go (eqb (w .due) t) (said-mutes ws t (write (w .address) (w .byte) u)) (said-mutes ws t u)
+      where
+        go : (e : Bool) → howMany sort (momentsAt ws t (withMutes (write (w .address) (w .byte) u) m)) ≡ howMany sort (momentsAt ws t (write (w .address) (w .byte) u)) → howMany sort (momentsAt ws t (withMutes u m)) ≡ howMany sort (momentsAt ws t u) →
+            howMany sort (cond e (record { entry = w; unit = withMutes u m } ∷ momentsAt ws t (write (w .address) (w .byte) (withMutes u m))) (momentsAt ws t (withMutes u m))) ≡ howMany sort (cond e (record { entry = w; unit = u } ∷ momentsAt ws t (write (w .address) (w .byte) u)) (momentsAt ws t u))
+        go true r s =
+            ap (λ (k : ℕ). cond (sort (says (w .address) u)) 1 0 + k) (ap (λ (v : Vsu). howMany sort (momentsAt ws t v)) (write-mutes u m (w .address) (w .byte)) ∙ r)
+        go false r s = s
+
+    pub counts-mutes : (ws : List Write) (c : ℕ) (u : Vsu) (n : ℕ) → howMany sort (momentsOn ws c (withMutes u m) n) ≡ howMany sort (momentsOn ws c u n)
+    unfolding momentsOn
+    counts-mutes ws c u zero = refl
+    counts-mutes ws c u (suc n) =
+        counts-append sort (momentsOn ws c (withMutes u m) n) _
+        ∙ ap₂ (λ (j k : ℕ). j + k) (counts-mutes ws c u n) (ap (λ (v : Vsu). howMany sort (momentsAt ws (c + n) v)) (run-on-mutes ws c u n) ∙ said-mutes ws (c + n) (runOn ws c u n))
+        ∙ sym (counts-append sort (momentsOn ws c u n) _)
+
 -- the run from power-on is one of these
 
 pub state-add : (ws : List Write) (c n : ℕ) → stateAt ws (c + n) ≡ runOn ws c (stateAt ws c) n
@@ -109,14 +159,19 @@ pub state-run : (ws : List Write) (t : ℕ) → stateAt ws t ≡ runOn ws 0 powe
 unfolding stateAt
 state-run ws t = ap (stateAt ws) (sym (zero-add t)) ∙ state-add ws 0 t
 
-pub frames-of : (ws : List Write) (a n : ℕ) → framesOf ws a n ≡ framesOn ws a (stateAt ws a) n
-unfolding framesOf framesOn
-frames-of ws a zero = refl
-frames-of ws a (suc n) =
-    ap₂ (λ (fs : List Frame) (u : Vsu). fs ++ made (applyAt ws (a + n) u)) (frames-of ws a n) (state-add ws a n)
+-- with mutes, its state n cycles on
+pub state-add-mutes : (ws : List Write) (m c n : ℕ) → withMutes (stateAt ws (c + n)) m ≡ runOn ws c (withMutes (stateAt ws c) m) n
+state-add-mutes ws m c n = ap (λ (u : Vsu). withMutes u m) (state-add ws c n) ∙ sym (run-on-mutes m ws c (stateAt ws c) n)
 
-pub frames-span : (ws : List Write) (a n : ℕ) → framesIn ws a (a + n) ≡ framesOn ws a (stateAt ws a) n
-frames-span ws a n = rw (add-sub-cancel-left a n) (frames-of ws a n)
+pub frames-of : (ws : List Write) (m a n : ℕ) → framesOf ws m a n ≡ framesOn ws a (withMutes (stateAt ws a) m) n
+unfolding framesOf framesOn
+frames-of ws m a zero = refl
+frames-of ws m a (suc n) =
+    ap₂ (λ (fs : List Frame) (u : Vsu). fs ++ made u) (frames-of ws m a n)
+    (sym (apply-mutes m ws (a + n) (stateAt ws (a + n))) ∙ ap (applyAt ws (a + n)) (state-add-mutes ws m a n))
+
+pub frames-span : (ws : List Write) (m a n : ℕ) → framesIn ws m a (a + n) ≡ framesOn ws a (withMutes (stateAt ws a) m) n
+frames-span ws m a n = rw (add-sub-cancel-left a n) (frames-of ws m a n)
 
 pub moments-of : (ws : List Write) (a n : ℕ) → momentsOf ws a n ≡ momentsOn ws a (stateAt ws a) n
 unfolding momentsOf momentsOn
@@ -126,6 +181,16 @@ moments-of ws a (suc n) =
 
 pub moments-span : (ws : List Write) (a n : ℕ) → momentsIn ws a (a + n) ≡ momentsOn ws a (stateAt ws a) n
 moments-span ws a n = rw (add-sub-cancel-left a n) (moments-of ws a n)
+
+pub counts-span : (ws : List Write) (m a n : ℕ) → countsOf (momentsOn ws a (withMutes (stateAt ws a) m) n) ≡ countsOf (momentsIn ws a (a + n))
+counts-span ws m a n =
+    rw (moments-span ws a n)
+    (λ j.
+    record {
+      taken = counts-mutes m isTaken ws a (stateAt ws a) n j;
+      held = counts-mutes m isHeld ws a (stateAt ws a) n j;
+      none = counts-mutes m isNone ws a (stateAt ws a) n j;
+    })
 
 -- how many are due
 
@@ -183,11 +248,6 @@ in-all [] = refl
 in-all (m ∷ ms) =
     omega (arith, one-sort (says (m .entry .address) (m .unit)) (says-accepted (m .entry .address) (m .unit)), in-all ms)
 
-pub counts-append : (sort : Said → Bool) (ms ns : List Moment) → howMany sort (ms ++ ns) ≡ howMany sort ms + howMany sort ns
-unfolding howMany
-counts-append sort [] ns = omega arith
-counts-append sort (m ∷ ms) ns = omega (arith, counts-append sort ms ns)
-
 -- a state in range stays in range, and a write leaves the output counter
 
 abbrev pub Bytes : List Write → Type 0
@@ -216,6 +276,9 @@ run-on-keeps ws c u (suc n) b h = cycle-keeps _ (apply-keeps ws (c + n) (runOn w
 
 pub state-keeps : (ws : List Write) (t : ℕ) → Bytes ws → inRange (stateAt ws t) ≡ true
 state-keeps ws t b = rw (state-run ws t) (run-on-keeps ws 0 powerOn t b power-on-in-range)
+
+pub state-keeps-muted : (ws : List Write) (t m : ℕ) → Bytes ws → m ≤ 63 → inRange (withMutes (stateAt ws t) m) ≡ true
+state-keeps-muted ws t m b l = mutes-keep (stateAt ws t) m l (state-keeps ws t b)
 
 abbrev Kept : Vsu → Vsu → Type 0
 Kept u v = v .output ≡ u .output

@@ -17,9 +17,9 @@ use Rattle.refusal.specs.Refusal.{fault, _then_}
 use Rattle.refusal.specs.declared.Answer.{Answer}
 use Rattle.refusal.specs.declared.Answer.the-variants.{Accepted, Refused}
 use Rattle.refusal.specs.declared.Refusal.{Refusal}
-use Rattle.refusal.specs.declared.Refusal.the-variants.{Room, BeyondEnd, Place, MarkNumber, MarkUnset, MarksFull}
+use Rattle.refusal.specs.declared.Refusal.the-variants.{State, Room, BeyondEnd, Place, MarkNumber, MarkUnset, MarksFull}
 use Rattle.table.specs.Table.{newest}
-use Rattle.vsu.specs.Core.{fitsIn, framesDue, powerOn, sides, unitAnswer}
+use Rattle.vsu.specs.Core.{fitsIn, framesDue, powerOn, sides, unitAnswer, withMutes}
 use Rattle.deck.specs.Unbroken.{countsOf, framesOn, momentsOn, noCounts, runOn}
 use Rattle.deck.specs.declared.Played.{Played}
 use Rattle.deck.specs.declared.Player.{Player}
@@ -98,13 +98,13 @@ playBy (Refused why) p n b out =
 abbrev pub playOf : Player → ℕ → List ℕ → List ℤ → PlayGives
 playOf p n b out = playBy (playAnswer p n b (length out)) p n b out
 
--- Seek: then 12. It "runs on from the present cycle, or from power-on when the target is earlier".
+-- Seek: then 12. It "runs on from the present cycle, or from power-on when the target is earlier"; the mutes are "kept by seek".
 
 unfoldable pub seekAnswer : Player → ℕ → List ℕ → Answer
 seekAnswer p target b = standingAnswer p b then fault (ltb (lengthIn b) target) BeyondEnd
 
 abbrev pub restarted : Player → Player
-restarted p = record { unit = powerOn; cycle = 0; applied = 0; marks = p .marks }
+restarted p = record { unit = withMutes powerOn (p .unit .mutes); cycle = 0; applied = 0; marks = p .marks }
 
 unfoldable pub soughtFrom : List Write → Player → ℕ → Player
 soughtFrom ws p target = cond (leb (p .cycle) target) (movedOn ws p (target - p .cycle)) (movedOn ws (restarted p) target)
@@ -195,13 +195,14 @@ goToAnswer p slot b memory =
     then fault (ltb (length memory) memorySize) Room
     then fault (ltb 15 slot) MarkNumber
     then fault (not (isSet slot (p .marks))) MarkUnset
-    then readAnswer newest (slotImage memory slot)
+    then readAnswer (slotImage memory slot)
     then fault (misplaced b (slotCycle memory slot) (slotApplied memory slot)) Place
 
+-- the mutes are "kept by .. go-to-mark": those in the slot's image are not taken
 unfoldable pub inSlot : Player → List ℕ → ℕ → Player
 inSlot p memory slot =
     record {
-      unit = readOf (slotImage memory slot) .state;
+      unit = withMutes (readOf (slotImage memory slot) .state) (p .unit .mutes);
       cycle = slotCycle memory slot;
       applied = slotApplied memory slot;
       marks = p .marks;
@@ -209,6 +210,17 @@ inSlot p memory slot =
 
 abbrev pub goToOf : Player → ℕ → List ℕ → List ℕ → Turn
 goToOf p slot b memory = turnBy (goToAnswer p slot b memory) p (inSlot p memory slot)
+
+-- Mute is lent "only the record": "1 for a record or a mute call with bits above 63".
+
+unfoldable pub muteAnswer : Player → ℕ → Answer
+muteAnswer p bits = unitAnswer (p .unit) then fault (ltb 63 bits) State
+
+abbrev pub muted : Player → ℕ → Player
+muted p bits = record { unit = withMutes (p .unit) bits; cycle = p .cycle; applied = p .applied; marks = p .marks }
+
+abbrev pub muteOf : Player → ℕ → Turn
+muteOf p bits = turnBy (muteAnswer p bits) p (muted p bits)
 
 -- What the code's inner contract goes by: the check that every call with a log makes, with the log's count and L where it is passed.
 abbrev pub standingOf : Player → List ℕ → Checked

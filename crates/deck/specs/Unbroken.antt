@@ -5,7 +5,7 @@ use mathlib.Core.Bool.{Bool, true, false, cond}
 use mathlib.Core.List.{List, [], _∷_, _++_}
 use lib.Dec.{eqb}
 use Rattle.log.specs.declared.Write.{Write}
-use Rattle.vsu.specs.Core.{cycle, made, powerOn, says, write}
+use Rattle.vsu.specs.Core.{cycle, made, powerOn, says, withMutes, write}
 use Rattle.vsu.specs.declared.core.Frame.{Frame}
 use Rattle.vsu.specs.declared.core.Said.{Said}
 use Rattle.vsu.specs.declared.core.Said.the-variants.{Taken, Held, NoRegister, Refused}
@@ -22,14 +22,14 @@ unfoldable pub stateAt : List Write → ℕ → Vsu
 stateAt ws zero = powerOn
 stateAt ws (suc t) = cycle (applyAt ws t (stateAt ws t))
 
--- its frames of the n cycles from cycle a on
-unfoldable pub framesOf : List Write → ℕ → ℕ → List Frame
-framesOf ws a zero = []
-framesOf ws a (suc n) = framesOf ws a n ++ made (applyAt ws (a + n) (stateAt ws (a + n)))
+-- its frames of the n cycles from cycle a on, with mutes; the run itself has nothing muted
+unfoldable pub framesOf : List Write → ℕ → ℕ → ℕ → List Frame
+framesOf ws mutes a zero = []
+framesOf ws mutes a (suc n) = framesOf ws mutes a n ++ made (withMutes (applyAt ws (a + n) (stateAt ws (a + n))) mutes)
 
 -- its frames from cycle a to cycle b
-abbrev pub framesIn : List Write → ℕ → ℕ → List Frame
-framesIn ws a b = framesOf ws a (b - a)
+abbrev pub framesIn : List Write → ℕ → ℕ → ℕ → List Frame
+framesIn ws mutes a b = framesOf ws mutes a (b - a)
 
 -- An entry at its moment: its write, and the state that it is applied to, after the earlier entries of its cycle.
 
