@@ -1,18 +1,19 @@
 -- The calls, over plain variables: what the rows come to, and what a call then hands back.
 use Prim.Native.Nat.{ℕ, _+_, _-_, _*_, _/_, _<_, _≤_}
 use mathlib.Core.Path.{_≡_, refl, sym, ap, _∙_}
-use mathlib.Core.Bool.{Bool, true, false, cond, not}
-use mathlib.Core.List.{List, [], _++_, append-nil, append-assoc}
+use mathlib.Core.Bool.{Bool, true, false, cond, not, _&&_, true≢false}
+use mathlib.Core.List.{List, [], _∷_, _++_, append-nil, append-assoc}
 use native.Mathlib.Omega.{arith}
-use borrow.Author.Tests.{le-leb, leb-true, le-ltb, lt-leb, lt-ltb, ltb-false, not-false}
+use borrow.Author.Tests.{le-leb, leb-true, leb-false, le-ltb, lt-leb, lt-ltb, ltb-false, not-false}
 use borrow.Rule.Slice.PartMut.{midOf, putMid}
 use lib.Dec.{leb, ltb}
 use lib.IntN.{ℤ}
 use lib.ListN.{drop, getD, length, length-drop, take, drop-of-length-le}
 use lib.Seq.{drop-drop, getD-drop, length-sets, sets, sets-eq, take-all}
+use Rattle.laws.proofs.Cases.{each}
 use Rattle.deck.proofs.PlayerLaws as deck
 use Rattle.deck.proofs.UnbrokenLaws.{due-none}
-use Rattle.deck.specs.Player.{appliedPlace, clearAnswer, clearOf, fresh, goToAnswer, goToOf, imagePlace, inSlot, lengthIn, memorySize, misplaced, movedOn, openOf, playAnswer, playBy, playOf, restarted, seekAnswer, setAnswer, setBy, setOf, slotApplied, slotCycle, slotImage, slotOf, slotPlace, slotSize, soughtFrom, standingAnswer, standingOf, turnBy, withMarks, writesIn}
+use Rattle.deck.specs.Player.{appliedPlace, clearAnswer, clearOf, fresh, goToAnswer, goToOf, imagePlace, inSlot, lengthIn, memorySize, misplaced, movedOn, muteAnswer, muteOf, muted, openOf, playAnswer, playBy, playOf, restarted, seekAnswer, setAnswer, setBy, setOf, slotApplied, slotCycle, slotImage, slotOf, slotPlace, slotSize, soughtFrom, standingAnswer, standingOf, turnBy, withMarks, writesIn}
 use Rattle.deck.specs.Unbroken.{countsOf, framesOn, momentsOn, noCounts, runOn}
 use Rattle.deck.specs.declared.Counts.{Counts}
 use Rattle.deck.specs.declared.Played.{Played}
@@ -36,8 +37,9 @@ use Rattle.refusal.specs.declared.Answer.{Answer}
 use Rattle.refusal.specs.declared.Answer.the-variants.{Accepted, Refused}
 use Rattle.refusal.specs.declared.Refusal.{Refusal}
 use Rattle.refusal.specs.declared.Refusal.the-variants.{State, Room, BeyondEnd, Place, MarkNumber, MarkUnset}
+use Rattle.vsu.proofs.MutesLaws.{mutes-keep}
 use Rattle.vsu.proofs.RangeLaws.{power-on-in-range, range-facts}
-use Rattle.vsu.specs.Core.{framesDue, inRange, sides, unitAnswer}
+use Rattle.vsu.specs.Core.{framesDue, inRange, powerOn, sides, unitAnswer, withMutes}
 use Rattle.vsu.specs.declared.core.Vsu.{Vsu}
 use Rattle.player.specs.Rows.{answeredBy, isAccepted, isMisplaced, isPast, rowBy}
 use Rattle.player.specs.Walk.{Recallable, Walkable, placedAt, startFor}
@@ -133,7 +135,7 @@ module _ (p : Player) (b : List ℕ) (a : standingAnswer p b ≡ Accepted) {coun
           record {
             cycles = lengthIn b;
             accepted = checked-as;
-            ranged = power-on-in-range;
+            ranged = mutes-keep powerOn (p .unit .mutes) (range-facts (p .unit) (stands .ranged) .mutes) power-on-in-range;
             stands = sym (due-none (writesFrom edition1 b count 0));
             ahead = omega arith;
           }
@@ -240,9 +242,9 @@ module _ (p : Player) (target : ℕ) where
   unfolding startFor
   start-here h = rw (le-leb (p .cycle) target h)
 
-  pub start-again : target < p .cycle → {f q : Player} → f ≡ fresh → q ≡ withMarks f (p .marks) → q ≡ startFor p target
+  pub start-again : target < p .cycle → {n u : Vsu} {x : ℕ} {q : Player} → n ≡ powerOn → x ≡ p .unit .mutes → u ≡ withMutes n x → q ≡ placedAt p u 0 0 → q ≡ startFor p target
   unfolding startFor
-  start-again h e g = g ∙ rw (lt-leb (p .cycle) target h, e)
+  start-again h d e f g = g ∙ rw (lt-leb (p .cycle) target h, f, d, e)
 
 -- a call that stops before it makes a turn
 pub turn-stops : (b : List ℕ) (a : Answer) (p q : Player) {c : Checked} → Gone b c a → {t : Bool} → t ≡ not (isAccepted (checkedAnswer c)) → t ≡ true →
@@ -351,6 +353,31 @@ pub cleared : (p : Player) (slot : ℕ) {u : Vsu} {h : Bool} {a : Answer} {n : �
 cleared p slot x y z d i e =
     tells-too (clearAnswer p slot) p (withMarks p (withoutMark slot (p .marks))) (e ∙ rw (z p (y ∙ ap inRange x) refl, i, d))
 
+-- mutes set
+
+pub few-bits : (bits : ℕ) (h : Bool) → (h && leb bits 63) ≡ true → bits ≤ 63
+few-bits bits h t = each h (leb bits 63 ∷ []) t (λ k. leb-true bits 63 (k .1 .0))
+
+module _ (p : Player) (bits : ℕ) {u : Vsu} {h : Bool} (e : u ≡ p .unit) (r : h ≡ inRange u) where
+  mute-answer : (h && leb bits 63) ≡ true → muteAnswer p bits ≡ Accepted
+  unfolding muteAnswer unitAnswer fault _then_
+  mute-answer t = each h (leb bits 63 ∷ []) t (λ k. rw (← e, ← r, k .0, le-ltb 63 bits (leb-true bits 63 (k .1 .0))))
+
+  mute-refusal : (h && leb bits 63) ≡ false → muteAnswer p bits ≡ Refused State
+  unfolding muteAnswer unitAnswer fault _then_
+  mute-refusal f = rw (← e, ← r) (go h (leb bits 63) refl f)
+    where
+      go : (a l : Bool) → leb bits 63 ≡ l → (a && l) ≡ false → (fault (not a) State then fault (ltb 63 bits) State) ≡ Refused State
+      go false l i k = refl
+      go true true i k = absurd (true≢false k)
+      go true false i k = rw (lt-ltb 63 bits (leb-false bits 63 i))
+
+  pub now-muted : (h && leb bits 63) ≡ true → {v : Vsu} {q : Player} {x : Turn} → v ≡ withMutes u bits → q ≡ placedAt p v (p .cycle) (p .applied) → x ≡ record { player = q; answer = Accepted } → (x ≡ muteOf p bits) × Tells (x .answer) (muteAnswer p bits)
+  now-muted t v q x = turned (muteAnswer p bits) p (muted p bits) (mute-answer t) (q ∙ rw (v, e)) x
+
+  pub not-muted : (h && leb bits 63) ≡ false → {x : Turn} → x ≡ record { player = p; answer = Refused State } → (x ≡ muteOf p bits) × Tells (x .answer) (muteAnswer p bits)
+  not-muted f x = refused (muteAnswer p bits) p (muted p bits) (mute-refusal f) (sym (mute-refusal f)) x
+
 -- going to a mark
 
 module _ (p : Player) (slot : ℕ) (b : List ℕ) (memory : List ℕ) where
@@ -359,7 +386,7 @@ module _ (p : Player) (slot : ℕ) (b : List ℕ) (memory : List ℕ) where
   before = standingAnswer p b then fault (ltb (length memory) memorySize) Room then fault (ltb 15 slot) MarkNumber then fault (not (isSet slot (p .marks))) MarkUnset
 
   slots-own : Answer
-  slots-own = readAnswer newest (slotImage memory slot) then fault (misplaced b (slotCycle memory slot) (slotApplied memory slot)) Place
+  slots-own = readAnswer (slotImage memory slot) then fault (misplaced b (slotCycle memory slot) (slotApplied memory slot)) Place
 
   all-rows : goToAnswer p slot b memory ≡ (before then slots-own)
   unfolding goToAnswer slots-own
@@ -405,7 +432,7 @@ module _ (p : Player) (slot : ℕ) (b : List ℕ) (memory : List ℕ) where
     slot-read : l ≡ readOf (slotImage memory slot)
     slot-read = let n : at + slotSize - (at + imagePlace) ≡ slotSize - imagePlace = omega arith in z ∙ ap readOf (rw (n, a))
 
-    slot-answer : o ≡ readAnswer newest (slotImage memory slot)
+    slot-answer : o ≡ readAnswer (slotImage memory slot)
     slot-answer = v ∙ ap (λ (l : Loaded). l .answer) slot-read ∙ read-answer (slotImage memory slot)
 
     here : cycle ≡ slotCycle memory slot
@@ -417,10 +444,10 @@ module _ (p : Player) (slot : ℕ) (b : List ℕ) (memory : List ℕ) where
     last-rows : Gone b e (goToAnswer p slot b memory)
     unfolding goToAnswer fault _then_
     last-rows =
-        let g = gone-answered b Accepted (k .checked) (readAnswer newest (slotImage memory slot)) {d = d} (rw (← slot-answer) i) in
-        let h = gone-misplaced b (Accepted then readAnswer newest (slotImage memory slot)) g (λ _. deck.stands p b (k .standing) .log) (slotCycle memory slot) (slotApplied memory slot) Place (rw (← here, ← done) m) j in
+        let g = gone-answered b Accepted (k .checked) (readAnswer (slotImage memory slot)) {d = d} (rw (← slot-answer) i) in
+        let h = gone-misplaced b (Accepted then readAnswer (slotImage memory slot)) g (λ _. deck.stands p b (k .standing) .log) (slotCycle memory slot) (slotApplied memory slot) Place (rw (← here, ← done) m) j in
         h ∙ rw (k .standing, le-ltb (length memory) memorySize (k .room), le-ltb 15 slot (k .most), k .marked)
 
-    pub recalled : {w : Answer} {u : Vsu} {q : Player} {r : Turn} → w ≡ checkedAnswer e → u ≡ l .state → q ≡ placedAt p u cycle applied → r ≡ turnBy w p q → r ≡ goToOf p slot b memory
+    pub recalled : {w : Answer} {u v : Vsu} {x : ℕ} {q : Player} {r : Turn} → w ≡ checkedAnswer e → u ≡ l .state → x ≡ p .unit .mutes → v ≡ withMutes u x → q ≡ placedAt p v cycle applied → r ≡ turnBy w p q → r ≡ goToOf p slot b memory
     unfolding inSlot
-    recalled w u q r = r ∙ rw (gone-answer b (goToAnswer p slot b memory) last-rows w, q, u, ap (λ (l : Loaded). l .state) slot-read, here, done)
+    recalled w u x v q r = r ∙ rw (gone-answer b (goToAnswer p slot b memory) last-rows w, q, v, u, x, ap (λ (l : Loaded). l .state) slot-read, here, done)

@@ -1,4 +1,4 @@
-// The player: one log, played, sought and marked. Each call checks what it is lent, in document 01's order.
+// The player: one log, played, sought and marked, with voices muted. Each call checks what it is lent, in document 01's order.
 mod rows;
 mod walk;
 
@@ -22,13 +22,13 @@ ghost use mathlib.Core.Bool.{true};
 ghost use Prim.Native.Nat.{_-_, _≤_};
 ghost use lib.ListN.{length};
 ghost use lib.Seq.{sets};
-ghost use Rattle.deck.specs.Player.{fresh, openOf, standingOf, movedOn, playAnswer, playOf, seekAnswer, seekOf, memorySize, slotPlace, slotOf, setAnswer, setOf, clearAnswer, clearOf, goToAnswer, goToOf, turnBy, withMarks, writesIn};
+ghost use Rattle.deck.specs.Player.{fresh, openOf, standingOf, movedOn, playAnswer, playOf, seekAnswer, seekOf, memorySize, slotPlace, slotOf, setAnswer, setOf, clearAnswer, clearOf, goToAnswer, goToOf, muteAnswer, muteOf, turnBy, withMarks, writesIn};
 ghost use Rattle.deck.specs.Unbroken.{noCounts};
 ghost use Rattle.deck.specs.declared.Player.{Player};
 ghost use Rattle.log.specs.Log.{edition1, logAnswer};
 ghost use Rattle.marks.specs.Marks.{marksSet, lowestFree};
 ghost use Rattle.refusal.specs.Refusal.{Tells};
-ghost use Rattle.vsu.specs.Core.{inRange};
+ghost use Rattle.vsu.specs.Core.{inRange, withMutes};
 ghost use Rattle.player.specs.Walk.{placedAt, startFor, Walkable, Recallable};
 
 fn turn(p: Player, answer: Answer) -> Turn
@@ -58,6 +58,20 @@ fn unit_of(p: Player) -> Vsu
     ensures { λ r. ⌜ r ≡ p .unit ⌝ }
 {
     p.unit
+}
+
+fn mutes_of(p: Player) -> u8
+    ensures { λ r. ⌜ r ≡ p .unit .mutes ⌝ }
+{
+    p.unit.mutes
+}
+
+fn with_mutes(u: Vsu, mutes: u8) -> Vsu
+    ensures { λ r. ⌜ r ≡ withMutes u mutes ⌝ }
+{
+    let mut t = u;
+    t.mutes = mutes;
+    t
 }
 
 fn with_marks(p: Player, marks: u16) -> Player
@@ -185,14 +199,14 @@ fn on_to(p: Player, target: u32, log: &[u8], count: u32) -> Player
     walked(p, w, target)
 }
 
-// Where a seek begins: at the present cycle, or at power-on when the target is earlier.
+// Where a seek begins: at the present cycle, or at power-on, with the present mutes, when the target is earlier.
 fn start_for(p: Player, target: u32) -> Player
     ensures { λ r. ⌜ r ≡ startFor p target ⌝ }
 {
     if p.cycle <= target {
         return p;
     }
-    with_marks(fresh(), p.marks)
+    placed_at(p, with_mutes(core::new(), mutes_of(p)), 0, 0)
 }
 
 // To a cycle, without frames: 3 to 8, 1, 13, 12.
@@ -300,7 +314,7 @@ fn state_in(l: Loaded) -> Vsu
     l.state
 }
 
-// What a set slot holds: 10, 11, 13.
+// What a set slot holds, but for its mutes: 10, 11, 13.
 fn recall(p: Player, slot: u32, log: &[u8], c: Checked, memory: &[u8]) -> Turn
     requires { ⌜ Recallable p slot (now log) c (now memory) ⌝ }
     ensures { λ r. ⌜ r ≡ goToOf p slot (now (log .entry)) (now (memory .entry)) ⌝ }
@@ -320,7 +334,7 @@ fn recall(p: Player, slot: u32, log: &[u8], c: Checked, memory: &[u8]) -> Turn
     turn_by(
         rows::answer_of(c),
         p,
-        placed_at(p, state_in(l), cycle, applied),
+        placed_at(p, with_mutes(state_in(l), mutes_of(p)), cycle, applied),
     )
 }
 
@@ -336,4 +350,16 @@ pub fn go_to(p: Player, slot: u32, log: &[u8], memory: &[u8]) -> Turn
         return turn(p, rows::answer_of(c));
     }
     recall(p, slot, log, c, memory)
+}
+
+// The mutes, bit k for channel k: 1, of the record and of the bits.
+pub fn mute(p: Player, bits: u32) -> Turn
+    ensures { λ r. ⌜ (r ≡ muteOf p bits) × Tells (r .answer) (muteAnswer p bits) ⌝ }
+{
+    let u = unit_of(p);
+    if core::in_range(u) & (bits <= 63) {
+        let q = placed_at(p, with_mutes(u, bits as u8), p.cycle, p.applied);
+        return turn(q, Answer::Accepted);
+    }
+    turn(p, Answer::Refused(Refusal::State))
 }

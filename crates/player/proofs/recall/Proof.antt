@@ -51,6 +51,12 @@ answer-of-requires c κs = search needs
 state-in-requires : tie.Need-state-in-requires
 state-in-requires c κs = search needs
 
+mutes-of-requires : tie.Need-mutes-of-requires
+mutes-of-requires c κs = search needs
+
+with-mutes-requires : tie.Need-with-mutes-requires
+with-mutes-requires c κs = search needs
+
 placed-at-requires : tie.Need-placed-at-requires
 placed-at-requires c κs = search needs
 
@@ -58,7 +64,7 @@ turn-by-requires : tie.Need-turn-by-requires
 turn-by-requires c κs = search needs
 
 returns : tie.Need-returns
-returns c = laws.recalled _ _ _ _ (c .before .before .before .before .before .before .before .before .before .before .before .before .before .before .before .pre) (c .before .before .before .before .before .before .before .before .before .before .before .before .slot-place .ensures) (c .before .before .before .before .before .before .before .before .before .before .before .u32-at .ensures) (c .before .before .before .before .before .before .before .before .before .before .u32-at2 .ensures) (c .before .before .before .before .before .before .before .before .read-image .ensures .0) (c .before .before .before .before .before .before .before .answer-in .ensures) (c .before .before .before .before .before .before .answered .ensures) (c .before .before .before .before .before .is-misplaced .ensures) (c .before .before .before .before .row .ensures) (c .before .before .before .answer-of .ensures) (c .before .before .state-in .ensures) (c .before .placed-at .ensures) (c .turn-by .ensures)
+returns c = laws.recalled _ _ _ _ (c .before .before .before .before .before .before .before .before .before .before .before .before .before .before .before .before .before .pre) (c .before .before .before .before .before .before .before .before .before .before .before .before .before .before .slot-place .ensures) (c .before .before .before .before .before .before .before .before .before .before .before .before .before .u32-at .ensures) (c .before .before .before .before .before .before .before .before .before .before .before .before .u32-at2 .ensures) (c .before .before .before .before .before .before .before .before .before .before .read-image .ensures .0) (c .before .before .before .before .before .before .before .before .before .answer-in .ensures) (c .before .before .before .before .before .before .before .before .answered .ensures) (c .before .before .before .before .before .before .before .is-misplaced .ensures) (c .before .before .before .before .before .before .row .ensures) (c .before .before .before .before .before .answer-of .ensures) (c .before .before .before .before .state-in .ensures) (c .before .before .before .mutes-of .ensures) (c .before .before .with-mutes .ensures) (c .before .placed-at .ensures) (c .turn-by .ensures)
 
 pub recall-spec : {M : Type 1} → statement M
 recall-spec =
@@ -80,6 +86,8 @@ recall-spec =
     row-requires
     answer-of-requires
     state-in-requires
+    mutes-of-requires
+    with-mutes-requires
     placed-at-requires
     turn-by-requires
     returns)

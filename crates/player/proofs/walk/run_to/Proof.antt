@@ -1,6 +1,6 @@
 use borrow.Author.Needs.{needs}
 use Rattle.player.proofs.WalkLaws as laws
-use Prim.Native.Nat.{_+_, _-_, _*_, _<_, _≤_}
+use Prim.Native.Nat.{_+_, _-_, _*_, _^_, _<_, _≤_}
 use mathlib.Core.Path.{_≡_, refl, ap, _∙_}
 use native.Mathlib.Omega.{arith}
 use denote.Ref.{now}
@@ -86,11 +86,15 @@ part-ran-end c = search needs
 ran-requires : tie.Need-ran-requires Inv-loop μ-loop
 ran-requires c κs = search needs
 
+-- the buffer's sides, of two bytes each
+sides : (c : tie.After-frames-due Inv-loop μ-loop) → length (now (c .before .before .before .before .before .before .before .args .out)) * 2 < 2 ^ 63
+sides c = omega arith
+
 mul-at : tie.Need-mul-at Inv-loop μ-loop
-mul-at c = omega (arith, within (c .before .before .before) .1 .0, within (c .before .before .before) .1 .1)
+mul-at c = omega (arith, within (c .before .before .before) .1 .0, within (c .before .before .before) .1 .1, sides (c .before .before .before))
 
 add-at : tie.Need-add-at Inv-loop μ-loop
-add-at c = omega (arith, within (c .before .before .before) .1 .0, within (c .before .before .before) .1 .1)
+add-at c = omega (arith, within (c .before .before .before) .1 .0, within (c .before .before .before) .1 .1, sides (c .before .before .before))
 
 loop-less-2 : tie.Need-loop-less-2 Inv-loop μ-loop
 loop-less-2 c = omega arith
