@@ -37,6 +37,7 @@ fn turned(p: Player, call: Call, log: &[u8], memory: &mut [u8], image: &mut [u8]
         Call::SetFree => player::set_free(p, log, memory),
         Call::Clear(slot) => player::clear_mark(p, slot),
         Call::GoTo(slot) => player::go_to(p, slot, log, memory),
+        Call::Mute(bits) => player::mute(p, bits),
         Call::Image => Turn {
             player: p,
             answer: picture(p, image),
@@ -136,6 +137,7 @@ fn did(call: Call, n: Numbers, text: &mut [u8]) -> usize {
     match call {
         Call::Set(_) => labelled(text, 0, b"set ", n.slot),
         Call::SetFree => labelled(text, 0, b"set ", n.slot),
+        Call::Mute(bits) => labelled(text, 0, b"muted ", bits),
         _ => moved(call, text),
     }
 }

@@ -1,7 +1,7 @@
 // A line as a call. A line that is not exactly one, as by another case, a second space or a sign, is `Unknown`.
 use check::same;
-use lines::words;
 use lines::words::Number;
+use lines::words::behind;
 
 pub(crate) enum Call {
     Play(u32),
@@ -10,18 +10,10 @@ pub(crate) enum Call {
     SetFree,
     Clear(u32),
     GoTo(u32),
+    Mute(u32),
     Image,
     Memory,
     Unknown,
-}
-
-// The number behind a word, in a line that begins with it.
-fn behind(line: &[u8], word: &[u8]) -> Number {
-    let k = word.len();
-    if words::begins(line, word) {
-        return words::decimal(&line[k..]);
-    }
-    Number::Not
 }
 
 // A call with a slot.
@@ -41,7 +33,16 @@ fn marking(line: &[u8]) -> Call {
     Call::Unknown
 }
 
-// A call with a cycle or a number of cycles, else one with a slot.
+// A call with mute bits, else one with a slot.
+fn muting(line: &[u8]) -> Call {
+    let mute = behind(line, b"mute ");
+    if let Number::Value(bits) = mute {
+        return Call::Mute(bits);
+    }
+    marking(line)
+}
+
+// A call with a cycle or a number of cycles, else another with a number.
 fn moving(line: &[u8]) -> Call {
     let play = behind(line, b"play ");
     if let Number::Value(cycles) = play {
@@ -51,7 +52,7 @@ fn moving(line: &[u8]) -> Call {
     if let Number::Value(target) = seek {
         return Call::Seek(target);
     }
-    marking(line)
+    muting(line)
 }
 
 pub(crate) fn call_of(line: &[u8]) -> Call {

@@ -2,7 +2,7 @@
 ghost use mathlib.Core.Path.{_≡_};
 ghost use mathlib.Core.Bool.{true};
 ghost use Prim.Native.Nat.{_≤_};
-ghost use lib.ListN.{length};
+ghost use lib.ListN.{drop, length};
 ghost use Rattle.lines.specs.Words.{Begins, spaceOf, digitOf, digitsOf, decimalOf, marksHex, numberOf};
 
 pub enum Number {
@@ -98,4 +98,16 @@ pub fn decimal_or_hex(text: &[u8]) -> Number
         return digits(&text[2..], 16, 8);
     }
     decimal(text)
+}
+
+// The number behind a word, of a line that begins with it.
+pub fn behind(line: &[u8], word: &[u8]) -> Number
+    ensures { λ r. ⌜ (Begins (now (line .entry)) (now (word .entry)) → r ≡ decimalOf (drop (length (now (word .entry))) (now (line .entry)))) ⌝ }
+    ensures { λ r. ⌜ ((Begins (now (line .entry)) (now (word .entry)) → ⊥) → r ≡ Number.Not) ⌝ }
+{
+    let k = word.len();
+    if begins(line, word) {
+        return decimal(&line[k..]);
+    }
+    Number::Not
 }

@@ -1,14 +1,16 @@
 // What a call is given, and the damages to it in the order in which document 01 has them refused.
 use little::Width;
 
-// Everything but the bytes: the record's numbers, the slot named, the cycle that a play or a seek goes to, and how much is lent of the
-// log, of the mark memory and of the frame buffer.
+// Everything but the bytes: the record's numbers, the slot named, the mute bits named, the cycle that a play or a seek goes to, and how
+// much is lent of the log, of the mark memory and of the frame buffer.
 pub(crate) struct Given {
     pub(crate) output: u32,
+    pub(crate) mutes: u8,
     pub(crate) cycle: u32,
     pub(crate) applied: u32,
     pub(crate) marks: u16,
     pub(crate) slot: u32,
+    pub(crate) bits: u32,
     pub(crate) end: u32,
     pub(crate) log: usize,
     pub(crate) memory: usize,
@@ -19,6 +21,8 @@ pub(crate) enum Damage {
     LogEnds(usize),
     Log(usize, Width, u32),
     Output(u32),
+    Mutes(u8),
+    Bits(u32),
     // a cycle with the right number of entries applied
     Cycle(u32, u32),
     // one entry fewer applied
@@ -40,10 +44,11 @@ pub(crate) struct Row(
     pub(crate) u8,
 );
 
-pub(crate) const ROWS: u32 = 22;
+pub(crate) const ROWS: u32 = 26;
 
 // "log 3 to 8, record 1 then 13, mark memory 2, then 14, 15, 16, then the slot's 10, 11 (offset in its image), 13, then 12, then frame
-// room 2". L is 4,800; the mark is slot 3, at 1,284, and its image at 1,292. Bits: open 1, play 2, seek 4, set 8, set free 16, clear 32, go to 64.
+// room 2"; a mute call's bits after its record. L is 4,800; the mark is slot 3, at 1,284, and its image at 1,292. Bits: open 1, play 2,
+// seek 4, set 8, set free 16, clear 32, go to 64, mute 128.
 pub(crate) fn row_at(i: u32) -> Row {
     match i {
         0 => Row(Damage::LogEnds(15), 3, 0, 0x5F),
@@ -54,20 +59,24 @@ pub(crate) fn row_at(i: u32) -> Row {
         5 => Row(Damage::LogEnds(63), 7, 0, 0x5F),
         6 => Row(Damage::Log(39, Width::U8, 1), 8, 2, 0x5F),
         7 => Row(Damage::Log(48, Width::U32, 4800), 8, 4, 0x5F),
-        8 => Row(Damage::Output(480), 1, 0, 0x7E),
-        9 => Row(Damage::Cycle(4801, 6), 13, 0, 0x5E),
-        10 => Row(Damage::Behind, 13, 0, 0x5E),
-        11 => Row(Damage::MemoryEnds(6847), 2, 0, 0x58),
-        12 => Row(Damage::Slot(16), 14, 0, 0x68),
-        13 => Row(Damage::Marks(0xFFF7), 15, 0, 0x60),
-        14 => Row(Damage::Marks(0xFFFF), 16, 0, 0x10),
-        15 => Row(Damage::Memory(1306, Width::U16, 401), 10, 0, 0x40),
-        16 => Row(Damage::Memory(1505, Width::U8, 16), 11, 213, 0x40),
-        17 => Row(Damage::Memory(1708, Width::U16, 480), 11, 416, 0x40),
-        18 => Row(Damage::Memory(1284, Width::U32, 4801), 13, 0, 0x40),
-        19 => Row(Damage::Memory(1288, Width::U32, 5), 13, 0, 0x40),
-        20 => Row(Damage::End(4801), 12, 0, 0x06),
-        21 => Row(Damage::Sides(3), 2, 0, 0x02),
+        8 => Row(Damage::Output(480), 1, 0, 0xFE),
+        9 => Row(Damage::Mutes(64), 1, 0, 0xFE),
+        10 => Row(Damage::Bits(64), 1, 0, 0x80),
+        11 => Row(Damage::Cycle(4801, 6), 13, 0, 0x5E),
+        12 => Row(Damage::Behind, 13, 0, 0x5E),
+        13 => Row(Damage::MemoryEnds(6847), 2, 0, 0x58),
+        14 => Row(Damage::Slot(16), 14, 0, 0x68),
+        15 => Row(Damage::Marks(0xFFF7), 15, 0, 0x60),
+        16 => Row(Damage::Marks(0xFFFF), 16, 0, 0x10),
+        17 => Row(Damage::Memory(1292, Width::U16, 3), 10, 0, 0x40),
+        18 => Row(Damage::Memory(1306, Width::U16, 401), 10, 0, 0x40),
+        19 => Row(Damage::Memory(1505, Width::U8, 16), 11, 213, 0x40),
+        20 => Row(Damage::Memory(1708, Width::U16, 480), 11, 416, 0x40),
+        21 => Row(Damage::Memory(1710, Width::U8, 64), 11, 418, 0x40),
+        22 => Row(Damage::Memory(1284, Width::U32, 4801), 13, 0, 0x40),
+        23 => Row(Damage::Memory(1288, Width::U32, 5), 13, 0, 0x40),
+        24 => Row(Damage::End(4801), 12, 0, 0x06),
+        25 => Row(Damage::Sides(3), 2, 0, 0x02),
         _ => Row(Damage::Nothing, 0, 0, 0),
     }
 }
@@ -81,6 +90,8 @@ pub(crate) fn damaged(g: Given, d: Damage) -> Given {
     let mut t = g;
     match d {
         Damage::Output(output) => t.output = output,
+        Damage::Mutes(mutes) => t.mutes = mutes,
+        Damage::Bits(bits) => t.bits = bits,
         Damage::Cycle(cycle, applied) => {
             t.cycle = cycle;
             t.applied = applied;

@@ -11,6 +11,7 @@ use crate::trial::Call;
 use crate::trial::Seen;
 use deck::MEMORY_SIZE;
 use libc::STDOUT_FILENO;
+use little::Width;
 use report::print;
 
 fn text(t: &[u8]) {
@@ -42,13 +43,14 @@ fn bit(c: Call) -> u8 {
         Call::SetFree => 16,
         Call::ClearMark => 32,
         Call::GoTo => 64,
+        Call::Mute => 128,
     }
 }
 
 // In the order of their bits.
 fn name(c: Call) {
     word(
-        b"open: \nplay: \nseek: \nset_mark: \nset_free: \nclear_mark: \ngo_to: ",
+        b"open: \nplay: \nseek: \nset_mark: \nset_free: \nclear_mark: \ngo_to: \nmute: ",
         u8::trailing_zeros(bit(c)),
     );
 }
@@ -56,7 +58,7 @@ fn name(c: Call) {
 // In the order of their rows.
 fn damage_name(i: u32) {
     word(
-        b"log short\nlog edition\nlog header length\nlog entry offset\nlog count\nlog size\nlog entry 2\nlog entry 4\nrecord state\nrecord cycle\nrecord applied\nmemory short\nmark number\nmark not set\nall set\nslot header\nslot level\nslot output\nslot cycle\nslot applied\nbeyond\nroom",
+        b"log short\nlog edition\nlog header length\nlog entry offset\nlog count\nlog size\nlog entry 2\nlog entry 4\nrecord state\nrecord mutes\nmute bits\nrecord cycle\nrecord applied\nmemory short\nmark number\nmark not set\nall set\nslot edition\nslot header\nslot level\nslot output\nslot mutes\nslot cycle\nslot applied\nbeyond\nroom",
         i,
     );
 }
@@ -134,13 +136,14 @@ fn line(c: Call, what: &[u8], g: Given, d: Damage) {
     text(b": ");
     told(s);
     print::line(
-        b", frames #, cycle # applied # marks # free #",
+        b", frames #, cycle # applied # marks # free # mutes #",
         &[
             s.frames as u64,
             s.cycle as u64,
             s.applied as u64,
             s.marks as u64,
             s.free as u64,
+            s.mutes as u64,
         ],
     );
     if s.kept {
@@ -150,15 +153,17 @@ fn line(c: Call, what: &[u8], g: Given, d: Damage) {
     }
 }
 
-// The record that most calls are given, at cycle 2,000 with slot 3 set; a play or a seek to 2,960, for which two frames are due; room
-// for six.
+// The record that most calls are given, at cycle 2,000 with slot 3 set and two voices muted; a play or a seek to 2,960, for which two
+// frames are due; room for six.
 fn given() -> Given {
     Given {
         output: 80,
+        mutes: 9,
         cycle: 2000,
         applied: 5,
         marks: 8,
         slot: 3,
+        bits: 63,
         end: 2960,
         log: 64,
         memory: MEMORY_SIZE,
@@ -242,6 +247,25 @@ fn clears(g: Given) {
     );
 }
 
+// A slot that holds an image of edition 1; and mutes, which need no place in a log either.
+fn mutes(g: Given) {
+    line(
+        Call::GoTo,
+        b"slot 3 of edition 1",
+        g,
+        Damage::Memory(1292, Width::U16, 1),
+    );
+    edge(Call::Mute, b"all six", g);
+    line(Call::Mute, b"none", g, Damage::Bits(0));
+    line(Call::Mute, b"4294967295", g, Damage::Bits(4_294_967_295));
+    line(
+        Call::Mute,
+        b"record cycle above L",
+        g,
+        Damage::Cycle(4801, 6),
+    );
+}
+
 fn main() {
     let g = given();
     refusals(g, Call::Open);
@@ -251,9 +275,11 @@ fn main() {
     refusals(g, Call::SetFree);
     refusals(g, Call::ClearMark);
     refusals(g, Call::GoTo);
+    refusals(g, Call::Mute);
     plays(g);
     plays_to_end(g);
     seeks(g);
     sets(g);
     clears(g);
+    mutes(g);
 }

@@ -11,6 +11,7 @@ use player::clear_mark;
 use player::go_to;
 use player::lowest_free;
 use player::marks_set;
+use player::mute;
 use player::open;
 use player::play;
 use player::seek;
@@ -28,6 +29,7 @@ pub(crate) enum Call {
     SetFree,
     ClearMark,
     GoTo,
+    Mute,
 }
 
 // What came of a call: the refusal's number (0: accepted) and the value it carries, the frames, the record's numbers, and whether the
@@ -40,6 +42,7 @@ pub(crate) struct Seen {
     pub(crate) applied: u32,
     pub(crate) marks: u32,
     pub(crate) free: u32,
+    pub(crate) mutes: u32,
     pub(crate) kept: bool,
 }
 
@@ -95,6 +98,7 @@ fn record(g: Given) -> Player {
     let mut p = t.player;
     let mut u = p.unit;
     u.output = g.output;
+    u.mutes = g.mutes;
     p.unit = u;
     p.cycle = g.cycle;
     p.applied = g.applied;
@@ -103,15 +107,17 @@ fn record(g: Given) -> Player {
 }
 
 // A record as bytes: its image, and its numbers behind that. A unit out of range has no image: the damaged ones are so by their output
-// counters alone, which are laid apart.
-fn laid(p: Player) -> [u8; 434] {
-    let mut out = [0u8; 434];
+// counters or their mutes alone, which are laid apart.
+fn laid(p: Player) -> [u8; 435] {
+    let mut out = [0u8; 435];
     let mut u = p.unit;
     little::put(&mut out, 420, Width::U32, u.output);
     little::put(&mut out, 424, Width::U32, p.cycle);
     little::put(&mut out, 428, Width::U32, p.applied);
     little::put(&mut out, 432, Width::U16, p.marks as u32);
+    little::put(&mut out, 434, Width::U8, u.mutes as u32);
     u.output = 0;
+    u.mutes = 0;
     write_image(u, &mut out);
     out
 }
@@ -132,6 +138,7 @@ fn turned(c: Call, p: Player, g: Given, log: &[u8], memory: &mut [u8]) -> Turn {
         Call::SetFree => set_free(p, log, memory),
         Call::ClearMark => clear_mark(p, g.slot),
         Call::GoTo => go_to(p, g.slot, log, memory),
+        Call::Mute => mute(p, g.bits),
         _ => open(log),
     }
 }
@@ -180,6 +187,7 @@ fn numbers(a: Answer) -> Seen {
         applied: 0,
         marks: 0,
         free: 0,
+        mutes: 0,
         kept: false,
     };
     if let Answer::Refused(why) = a {
@@ -199,6 +207,7 @@ fn summed(r: Played, same: bool) -> Seen {
     s.applied = p.applied;
     s.marks = marks_set(p);
     s.free = lowest_free(p);
+    s.mutes = p.unit.mutes as u32;
     s.kept = same & (r.frames == 0) & ((c.taken == 0) & (c.held == 0) & (c.none == 0));
     s
 }

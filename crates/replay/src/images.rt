@@ -103,6 +103,16 @@ fn handed_back(t: Tally, what: &[u8], image: &[u8]) -> Tally {
     held(t, what, b"handed back", &b, image)
 }
 
+// An accepted image "always writes back as edition 2", with every other byte as it was.
+fn again(t: Tally, what: &[u8], bytes: &[u8], image: &mut [u8; 420]) -> Tally {
+    let edition = little::u16_at(image, 0) as u32;
+    if edition != 2 {
+        return tally::differs_in(t, what, b"edition", 2, edition);
+    }
+    image[0] = little::byte_at(bytes, 0);
+    held(t, what, b"again", bytes, image)
+}
+
 // The bytes read as an image: the answer, then the state.
 fn read(t: Tally, what: &[u8], bytes: &[u8], expected: Numbers) -> Tally {
     let mut image = [0u8; 420];
@@ -114,7 +124,7 @@ fn read(t: Tally, what: &[u8], bytes: &[u8], expected: Numbers) -> Tally {
         return tally::differs_in(t, what, b"carried", expected.carried, got.carried);
     }
     if got.number == 0 {
-        return held(t, what, b"again", bytes, &image);
+        return again(t, what, bytes, &mut image);
     }
     handed_back(t, what, &image)
 }

@@ -16,11 +16,12 @@ struct Replay {
     tally: Tally,
 }
 
-// What stands behind an op's letter: three numbers, the first byte of the second, and whether all of it came.
+// What stands behind an op's letter: three numbers, the first bytes of the first two, and whether all of it came.
 struct Words {
     a: u32,
     b: u32,
     c: u32,
+    first: u8,
     byte: u8,
     came: bool,
 }
@@ -30,13 +31,15 @@ fn words_in(b: &[u8], came: bool) -> Words {
         a: little::u32_at(b, 0),
         b: little::u32_at(b, 4),
         c: little::u32_at(b, 8),
+        first: little::byte_at(b, 0),
         byte: little::byte_at(b, 4),
         came: came,
     }
 }
 
-// A write's address and byte; a run's cycles, frames and sum; the cycles to advance.
+// A write's address and byte; a run's cycles, frames and sum; mute bits; the cycles to advance.
 fn taken(letter: u8) -> Words {
+    let mut one = [0u8; 1];
     let mut five = [0u8; 5];
     let mut twelve = [0u8; 12];
     let mut four = [0u8; 4];
@@ -48,6 +51,10 @@ fn taken(letter: u8) -> Words {
         b'R' => {
             let n = io::read_full(STDIN_FILENO, &mut twelve);
             words_in(&twelve, n == 12)
+        }
+        b'M' => {
+            let n = io::read_full(STDIN_FILENO, &mut one);
+            words_in(&one, n == 1)
         }
         _ => {
             let n = io::read_full(STDIN_FILENO, &mut four);
@@ -103,6 +110,18 @@ fn advance(u: Vsu, t: Tally, w: Words) -> Replay {
     }
 }
 
+fn muted(u: Vsu, t: Tally, w: Words) -> Replay {
+    if w.first > 63 {
+        return Replay {
+            unit: u,
+            tally: tally::broken(t, b"M is above 63"),
+        };
+    }
+    let mut v = u;
+    v.mutes = w.first;
+    Replay { unit: v, tally: t }
+}
+
 // An op that moves the unit.
 fn moved(u: Vsu, t: Tally, letter: u8, out: &mut [i16; 8192]) -> Replay {
     let w = taken(letter);
@@ -115,6 +134,7 @@ fn moved(u: Vsu, t: Tally, letter: u8, out: &mut [i16; 8192]) -> Replay {
     match letter {
         b'W' => write(u, t, w),
         b'R' => run(u, t, w, out),
+        b'M' => muted(u, t, w),
         _ => advance(u, t, w),
     }
 }
@@ -170,7 +190,7 @@ fn op(u: Vsu, t: Tally, letter: u8, out: &mut [i16; 8192]) -> Replay {
             tally: tally::begin(t),
         },
         b'L' => load(u, t),
-        b'W' | b'R' | b'A' => moved(u, t, letter, out),
+        b'W' | b'R' | b'A' | b'M' => moved(u, t, letter, out),
         _ => Replay {
             unit: u,
             tally: asked(u, t, letter),

@@ -1,12 +1,16 @@
 // The story of a mark. A modulation table that doesn't loop runs past entry 31 on channel 5 in bar 1; a mark is set where bar 40
 // begins, and playing goes on. Going to the mark, and seeking back, then give the frames of the unbroken run. A unit that is sent
-// the last byte of each register gives others: "Errors that look right".
+// the last byte of each register gives others: "Errors that look right". Last a rehearsal: the voice is muted, and going to the mark
+// keeps it so, also to one of a memory from before there were mutes, whose images are of edition 1.
 mod song;
 
+use deck::IMAGE_PLACE;
 use deck::MEMORY_SIZE;
 use deck::Player;
 use libc::STDOUT_FILENO;
+use little::Width;
 use player::go_to;
+use player::mute;
 use player::open;
 use player::play;
 use player::seek;
@@ -184,6 +188,37 @@ fn to_bar_40(log: &[u8]) -> Player {
     r
 }
 
+fn with_mutes(p: Player, bits: u32) -> Player {
+    let t = mute(p, bits);
+    let a = t.answer;
+    accepted(a);
+    t.player
+}
+
+// To the mark with the voice muted: silence; then unmuted there.
+fn silent_there(what: &[u8], p: Player, log: &[u8], memory: &[u8], sum: u32) {
+    let t = go_to(p, 0, log, memory);
+    let a = t.answer;
+    accepted(a);
+    let q = t.player;
+    compared(what, bars(q, 2, log), sum);
+    compared(b"unmuted there", bars(with_mutes(q, 0), 2, log), sum);
+}
+
+// The mark is slot 0; an image's edition is its first number, and with nothing muted the two editions differ in that alone.
+fn rehearsal(p: Player, log: &[u8], memory: &mut [u8], sum: u32) {
+    let q = with_mutes(p, 16);
+    silent_there(b"muted and gone to the mark", q, log, memory, sum);
+    little::put(memory, IMAGE_PLACE, Width::U16, 1);
+    silent_there(
+        b"muted and gone to a mark of edition 1",
+        q,
+        log,
+        memory,
+        sum,
+    );
+}
+
 fn story(log: &[u8], memory: &mut [u8]) {
     let p = to_bar_40(log);
     let t = set_free(p, log, memory);
@@ -198,6 +233,7 @@ fn story(log: &[u8], memory: &mut [u8]) {
     back(r, q.cycle, log, memory, h.sum);
     unbroken(log, h.sum);
     wrong_way(q, log, h.sum);
+    rehearsal(r, log, memory, h.sum);
 }
 
 fn main() {

@@ -1,17 +1,27 @@
-// The log on standard input as a 16-bit stereo WAV of its frames on standard output.
+// The log on standard input as a 16-bit stereo WAV of its frames on standard output. A line `mute B` may stand before the log: its
+// frames are then those with these mutes.
 mod riff;
 
 use deck::Player;
 use libc::STDERR_FILENO;
 use libc::STDIN_FILENO;
 use libc::STDOUT_FILENO;
+use lines::words::Number;
+use lines::words::behind;
 use log::Checked;
 use refusal::Refusal;
 use report::progress;
 use report::text;
+ghost use Prim.Native.Nat.{_≤_};
+ghost use lib.ListN.{length};
 
 // A log of any length is played in plays of at most 1,024 frames: their cycles.
 const SPAN: u32 = 480 * 1024;
+
+// The most bytes of a log, and of the line before it: `mute 4294967295` and its end.
+const MOST: usize = 1_048_576;
+
+const LINE: usize = 16;
 
 // The player, whether all that it played is written, and how much was last told to be done.
 struct Playing {
@@ -44,10 +54,17 @@ fn play(s: Playing, n: u32, log: &[u8], cycles: u32) -> Playing {
     }
 }
 
-// Whether all frames are written. A log of one span is done before there is anything to tell: hence the 100 at first.
-fn frames(log: &[u8], cycles: u32) -> bool {
+// A record at the log's beginning, with these mutes; those of more than six bits have been refused.
+fn begun(log: &[u8], mutes: u32) -> Player {
     let t = player::open(log);
     let p = t.player;
+    let m = player::mute(p, mutes);
+    m.player
+}
+
+// Whether all frames are written. A log of one span is done before there is anything to tell: hence the 100 at first.
+fn frames(log: &[u8], cycles: u32, mutes: u32) -> bool {
+    let p = begun(log, mutes);
     let mut s = Playing {
         player: p,
         written: true,
@@ -66,10 +83,10 @@ fn frames(log: &[u8], cycles: u32) -> bool {
     last.written
 }
 
-fn sound(log: &[u8], cycles: u32) -> bool {
+fn sound(log: &[u8], cycles: u32, mutes: u32) -> bool {
     let mut header = [0u8; 44];
     riff::header(&mut header, cycles);
-    io::write_all(STDOUT_FILENO, &header) && frames(log, cycles)
+    io::write_all(STDOUT_FILENO, &header) && frames(log, cycles, mutes)
 }
 
 fn refused(why: Refusal) {
@@ -87,11 +104,11 @@ fn unwritten() {
     io::write_all(STDERR_FILENO, b"wav: standard output can't be written\n");
 }
 
-fn convert(log: &[u8]) {
+fn convert(log: &[u8], mutes: u32) {
     let c = log::check_log(log);
     match c {
         Checked::Log { count: _, cycles } => {
-            if !sound(log, cycles) {
+            if !sound(log, cycles, mutes) {
                 unwritten();
             }
         }
@@ -99,13 +116,48 @@ fn convert(log: &[u8]) {
     }
 }
 
-// The input has room for one byte more than a log may have, so that a longer one shows.
-fn main() {
-    let mut space = [0u8; 1048577];
-    let size = io::read_full(STDIN_FILENO, &mut space);
-    if size > 1_048_576 {
+fn limited(log: &[u8], mutes: u32) {
+    if mutes > 63 {
+        refused(Refusal::State);
+    } else if log.len() > MOST {
         refused(Refusal::Room);
     } else {
-        convert(&space[..size]);
+        convert(log, mutes);
     }
+}
+
+// Where the first line ends, if it is no longer than a `mute` line can be; else where that would be, or where the input ends.
+fn line_end(input: &[u8]) -> usize
+    ensures { λ r. ⌜ r ≤ length (now (input .entry)) ⌝ }
+{
+    let mut at = 0;
+    while at < input.len() {
+        if (input[at] == b'\n') | (at == LINE - 1) {
+            return at;
+        }
+        at += 1;
+    }
+    at
+}
+
+// Any other first line is the log's own.
+fn split(input: &[u8]) {
+    let end = line_end(input);
+    let bits = behind(&input[..end], b"mute ");
+    if let Number::Value(mutes) = bits {
+        if end < input.len() {
+            if input[end] == b'\n' {
+                limited(&input[end + 1..], mutes);
+                return;
+            }
+        }
+    }
+    limited(input, 0);
+}
+
+// The input has room for one byte more than a line and a log may have, so that a longer one shows.
+fn main() {
+    let mut space = [0u8; 1048593];
+    let size = io::read_full(STDIN_FILENO, &mut space);
+    split(&space[..size]);
 }

@@ -8,7 +8,7 @@ abbrev Inv-loop : tie.InvT-loop
 Inv-loop g c a₀ a = Unit {0}
 
 abbrev μ-loop : tie.MeasureT-loop
-μ-loop g c a₀ a = 22 - a
+μ-loop g c a₀ a = 26 - a
 
 loop-holds : tie.Need-loop-holds Inv-loop μ-loop
 loop-holds c = search needs

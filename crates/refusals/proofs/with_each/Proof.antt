@@ -8,7 +8,7 @@ abbrev Inv-loop : tie.InvT-loop
 Inv-loop g c a b₀ b = Unit {0}
 
 abbrev μ-loop : tie.MeasureT-loop
-μ-loop g c a b₀ b = 22 - b
+μ-loop g c a b₀ b = 26 - b
 
 loop-holds : tie.Need-loop-holds Inv-loop μ-loop
 loop-holds c = search needs

@@ -5,13 +5,13 @@ use Rattle.wav.proofs.frames.Statement.{statement}
 use Rattle.wav.proofs.frames.Tie as tie
 
 abbrev Inv-loop : tie.InvT-loop
-Inv-loop log cycles s₀ spans i₀ s i = Unit {0}
+Inv-loop log cycles mutes s₀ spans i₀ s i = Unit {0}
 
 abbrev μ-loop : tie.MeasureT-loop
-μ-loop log cycles s₀ spans i₀ s i = spans - i
+μ-loop log cycles mutes s₀ spans i₀ s i = spans - i
 
-open-requires : tie.Need-open-requires Inv-loop μ-loop
-open-requires c κs = search needs
+begun-requires : tie.Need-begun-requires Inv-loop μ-loop
+begun-requires c κs = search needs
 
 loop-holds : tie.Need-loop-holds Inv-loop μ-loop
 loop-holds c = search needs
@@ -43,7 +43,7 @@ frames-spec =
     (tie.spec
     Inv-loop
     μ-loop
-    open-requires
+    begun-requires
     loop-holds
     play-requires
     returns

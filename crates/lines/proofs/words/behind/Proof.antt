@@ -1,7 +1,13 @@
 -- A line that begins with a word is as long as the word at least.
+use denote.Ref.{now}
+use mathlib.Core.Bool.{true≢false}
+use mathlib.Core.Path.{refl, sym, ap, _∙_}
+use lib.ListN.{length}
 use borrow.Author.Needs.{needs}
-use Rattle.drive.proofs.call.behind.Statement.{statement}
-use Rattle.drive.proofs.call.behind.Tie as tie
+use Rattle.lines.specs.Words.{decimalOf}
+use Rattle.lines.proofs.WordsLaws.{rest}
+use Rattle.lines.proofs.words.behind.Statement.{statement}
+use Rattle.lines.proofs.words.behind.Tie as tie
 
 begins-requires : tie.Need-begins-requires
 begins-requires c κs = search needs
@@ -19,10 +25,16 @@ decimal-requires : tie.Need-decimal-requires
 decimal-requires c κs = search needs
 
 returns : tie.Need-returns
-returns c = search needs
+returns c =
+    let a = c .before .before .before .before .before .before .args in
+    let b = c .before .before .before .begins .ensures in
+    let t = c .before .before .if1 .taken in (
+      λ _. c .decimal .ensures ∙ ap decimalOf (rest (length (now (a .word))) (now (a .line))),
+      λ n. absurd (n (b .0 t)),
+    )
 
 returns-2 : tie.Need-returns-2
-returns-2 c = search needs
+returns-2 c = (λ b. absurd (true≢false (sym (c .before .begins .ensures .1 .0 b) ∙ c .if1 .left)), λ _. refl)
 
 pub behind-spec : {M : Type 1} → statement M
 behind-spec =
