@@ -90,12 +90,13 @@ pub fn parse(line: &[u8]) -> Line {
         b"set free" => return Line::Call(Call::SetFree),
         _ => {}
     }
-    let calls: [(&[u8], fn(u32) -> Call); 5] = [
+    let calls: [(&[u8], fn(u32) -> Call); 6] = [
         (b"play ", Call::Play),
         (b"seek ", Call::Seek),
         (b"set ", Call::Set),
         (b"clear ", Call::Clear),
         (b"goto ", Call::GoTo),
+        (b"mute ", Call::Mute),
     ];
     let call = calls.iter().find_map(|(word, call)| Some(call(decimal(line.strip_prefix(*word)?)?)));
     call.map_or(Line::Unknown, Line::Call)
@@ -123,6 +124,7 @@ fn told(done: Result<Done, Refused>) -> String {
         Ok(Done::Set(slot)) => format!("set {slot}"),
         Ok(Done::Cleared) => "cleared".to_string(),
         Ok(Done::Went) => "went".to_string(),
+        Ok(Done::Muted(bits)) => format!("muted {bits}"),
         Err((number, carried)) => format!("refused {number} {carried}"),
     }
 }

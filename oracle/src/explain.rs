@@ -1,48 +1,52 @@
 //! Prints a stream to read, with what each op does to the Rust's unit.
 
 use crate::digest::{sum_of, Frames};
-use crate::image::{image, state_of};
+use crate::image::state_of;
 use crate::log::Refused;
 use crate::reader::Reader;
-use crate::state::{named, read, write, State};
+use crate::state::{named, State};
 use crate::stream::{answer, op, Op};
-use crate::vsu::core::VSU;
+use crate::unit::Unit;
 
 /// One line for each op, with the fields that it changed; after op number `all`, every field and frame.
 pub fn explain(bytes: &[u8], all: Option<u64>, print: &mut dyn FnMut(String)) -> Result<(), String> {
     let mut reader = Reader::new(bytes);
-    let mut unit = VSU::new();
+    let mut unit = Unit::new();
     for number in 0u64.. {
-        let before = read(&unit);
+        let before = unit.state();
         let mut frames = Frames::default();
         let mut loaded = false;
         let line = match op(&mut reader)? {
             Op::Power => {
-                unit = VSU::new();
+                unit = Unit::new();
                 loaded = true;
                 "P".to_string()
             }
             Op::Load(image) => {
-                unit = write(&state_of(&image).ok_or(format!("op {number}: the image is not in range"))?);
+                unit = Unit::of(&state_of(&image).ok_or(format!("op {number}: the image is not in range"))?);
                 loaded = true;
-                "L".to_string()
+                format!("L edition {}", image[0])
             }
             Op::Write { address, byte } => {
-                unit.set_u8(address as usize, byte);
+                unit.write(address, byte);
                 format!("W {address:#x} <- {byte:#04x}")
             }
+            Op::Mute { bits } => {
+                unit.mutes = bits.into();
+                format!("M {bits:#08b}")
+            }
             Op::Run { n, made } => {
-                unit.step(n as usize, &mut frames);
+                unit.step(n, &mut frames);
                 format!("R {n}: {} frames, sum {}", made.frames, made.sum)
             }
             Op::Silent { n } => {
-                unit.step(n as usize, &mut frames);
+                unit.step(n, &mut frames);
                 format!("A {n}")
             }
-            Op::State { sum } => format!("S {sum}{}", wrong(sum_of(&image(&unit)) != sum)),
-            Op::Image(bytes) => format!("I{}", wrong(image(&unit) != *bytes)),
+            Op::State { sum } => format!("S {sum}{}", wrong(sum_of(&unit.image()) != sum)),
+            Op::Image(bytes) => format!("I{}", wrong(unit.image() != *bytes)),
             Op::Byte { at, value, answer: wanted } => {
-                let mut bytes = image(&unit);
+                let mut bytes = unit.image();
                 bytes[at as usize] = value;
                 format!("B {at} <- {value}: {}{}", said(wanted), wrong(answer(&bytes) != wanted))
             }
@@ -54,7 +58,7 @@ pub fn explain(bytes: &[u8], all: Option<u64>, print: &mut dyn FnMut(String)) ->
                 return Ok(());
             }
         };
-        let after = read(&unit);
+        let after = unit.state();
         print(format!("{number} {line}{}", if loaded { String::new() } else { changes(&before, &after) }));
         if all == Some(number) {
             named(&after).iter().for_each(|(name, v)| print(format!("    {name} {v}")));

@@ -1,8 +1,9 @@
-//! The state image of document 01, 420 bytes, written from its text.
+//! The state image of document 01, 420 bytes, written from its text; of the edition that 02 (v) has, and read in both.
 
 use crate::imagecheck::check;
 use crate::log::Refused;
-use crate::state::{in_range, power_on, read, write, State};
+use crate::state::{in_range, power_on, read, State};
+use crate::unit::Unit;
 use crate::vsu::core::VSU;
 
 pub const LENGTH: usize = 420;
@@ -12,19 +13,23 @@ const CHANNELS: usize = 208;
 const CHANNEL_LENGTH: usize = 32;
 const SWEEP: usize = 400;
 const OUTPUT: usize = 416;
+/// Where an image has its edition, and edition 2 the mutes.
+pub const EDITION: usize = 0;
+pub const MUTES: usize = 418;
 
+/// Of the Rust's unit with nothing muted.
 pub fn image(unit: &VSU) -> [u8; LENGTH] {
     image_of(&read(unit))
 }
 
 /// Stops the program when the image is not one of a state in range.
-pub fn from_image(bytes: &[u8; LENGTH]) -> VSU {
-    write(&state_of(bytes).expect("the image is not one of a state in range"))
+pub fn from_image(bytes: &[u8; LENGTH]) -> Unit {
+    Unit::of(&state_of(bytes).expect("the image is not one of a state in range"))
 }
 
 pub fn image_of(state: &State) -> [u8; LENGTH] {
     let mut b = [0; LENGTH];
-    put16(&mut b, 0, 1); // edition
+    put16(&mut b, EDITION, 2);
     put16(&mut b, 2, 16); // header length
     put32(&mut b, 4, 420); // total
     put16(&mut b, 8, 5); // waves
@@ -68,14 +73,30 @@ pub fn image_of(state: &State) -> [u8; LENGTH] {
     put16(&mut b, SWEEP + 12, s.current);
     put16(&mut b, SWEEP + 14, s.next);
     put16(&mut b, OUTPUT, state.output);
+    b[MUTES] = byte(state.mutes);
     b
 }
 
-/// The state that an image holds; none when the image breaks a rule of document 01.
+/// The image that edition 1 has of the same state, where nothing is muted.
+pub fn first_edition(mut image: [u8; LENGTH]) -> [u8; LENGTH] {
+    image[EDITION] = 1;
+    image[MUTES] = 0;
+    image
+}
+
+/// How an image that is accepted is written back: "edition 1 .. always writes back as edition 2", edition 2 as it is.
+pub fn written_back(bytes: &[u8]) -> Vec<u8> {
+    let mut image = bytes.to_vec();
+    image[EDITION] = 2;
+    image
+}
+
+/// The state that an image of either edition holds; none when the image breaks a rule.
 pub fn state_of(b: &[u8; LENGTH]) -> Option<State> {
     let state = taken_apart(b);
     // header, zero bytes and unused flags: an image is right when it is the image of the state read from it
-    (in_range(&state) && image_of(&state) == *b).then_some(state)
+    let image = image_of(&state);
+    (in_range(&state) && [image, first_edition(image)].contains(b)).then_some(state)
 }
 
 /// The state that the bytes hold, or power-on and 01's refusal. What is accepted is left to `imagecheck` alone, so that a
@@ -127,6 +148,8 @@ fn taken_apart(b: &[u8; LENGTH]) -> State {
     s.current = get16(b, SWEEP + 12);
     s.next = get16(b, SWEEP + 14);
     state.output = get16(b, OUTPUT);
+    // "edition 1 is still read, as nothing muted"
+    state.mutes = if get16(b, EDITION) == 1 { 0 } else { b[MUTES] as u32 };
     state
 }
 

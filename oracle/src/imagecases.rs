@@ -1,9 +1,9 @@
 //! Damaged images for the streams: random ones, and those of the stored sample. README.md has the table of what each part
 //! of the sample covers.
 
-use crate::image::{image_of, LENGTH};
+use crate::image::{first_edition, image_of, EDITION, LENGTH, MUTES};
 use crate::imagecheck::check;
-use crate::random::{state, Numbers};
+use crate::random::{muted_state, state, Numbers};
 use crate::state::{power_on, State, NOISE};
 use crate::stream::{Maker, MOST_BYTES};
 
@@ -13,6 +13,9 @@ const OUTPUT: usize = 378;
 const SHIFT: usize = 396;
 
 const LENGTHS: [usize; 6] = [0, 1, 16, 419, 421, 840];
+
+/// 1 and 2 are known. Both bytes of the number count.
+const EDITIONS: [u16; 10] = [0, 1, 2, 3, 256, 257, 258, 513, 0x8001, 0xFFFF];
 
 /// Every field at its largest value: one more in any byte is too much wherever that byte does not wrap.
 pub fn largest() -> State {
@@ -34,6 +37,7 @@ pub fn largest() -> State {
     (w.step_counter, w.index) = (153_608, 31);
     (w.last, w.current, w.next) = (2047, 2047, 2047);
     s.output = 479;
+    s.mutes = 63;
     s
 }
 
@@ -77,12 +81,12 @@ fn lengths(m: &mut Maker, image: &[u8; LENGTH], fill: Option<u8>, list: &[usize]
 
 // Random images.
 
-/// One random case: each byte of an image set to many values, then bytes damaged together and other lengths.
+/// One random case: each byte of an image set to many values, then bytes damaged together, the editions and other lengths.
 pub fn case(m: &mut Maker, r: &mut Numbers) {
     let base = match r.below(8) {
         0 | 1 => power_on(),
         2 => largest(),
-        _ => state(r),
+        _ => muted_state(r),
     };
     if base == power_on() {
         m.power();
@@ -96,7 +100,10 @@ pub fn case(m: &mut Maker, r: &mut Numbers) {
             m.byte(at, value);
         }
     }
-    some_together(m, r, &image);
+    for image in [image, first_edition(image)] {
+        some_together(m, r, &image);
+    }
+    some_editions(m, r, &image);
     some_noise(m, r, &image);
     some_lengths(m, r, &image);
     // nothing that was read is the present state
@@ -141,6 +148,25 @@ fn some_together(m: &mut Maker, r: &mut Numbers, image: &[u8; LENGTH]) {
     }
 }
 
+/// The bytes that the editions have apart and the edition's own, of edition 1, which the present image is not; then each number of
+/// an edition over what the other one has.
+fn some_editions(m: &mut Maker, r: &mut Numbers, image: &[u8; LENGTH]) {
+    let first = first_edition(*image);
+    m.bytes(&first);
+    for at in [EDITION, EDITION + 1, MUTES, MUTES + 1] {
+        for value in [0, 1, 2, 3, 63, 64, 127, 128, 255, r.byte()] {
+            m.bytes(&with(&first, &[(at, value)]));
+        }
+    }
+    for edition in EDITIONS {
+        let [low, high] = edition.to_le_bytes();
+        let numbered = [(EDITION, low), (EDITION + 1, high)];
+        let mutes = [(MUTES, [0, 1, 63, 64, r.byte()][r.below(5) as usize]), (MUTES + 1, u8::from(r.one_in(4)))];
+        m.bytes(&with(&first, &numbered));
+        m.bytes(&with(image, &[numbered, mutes].concat()));
+    }
+}
+
 /// Output and shift changed together: accepted where the output stays the lowest bit.
 fn some_noise(m: &mut Maker, r: &mut Numbers, image: &[u8; LENGTH]) {
     for output in [0, 1] {
@@ -160,6 +186,8 @@ fn some_lengths(m: &mut Maker, r: &mut Numbers, image: &[u8; LENGTH]) {
     // 9 comes first, whatever else is wrong
     let broken = with(image, &[(r.below(16) as usize, r.byte()), (place(r), 255)]);
     m.bytes(&broken[..r.below(LENGTH as u32) as usize]);
+    let first = first_edition(*image);
+    lengths(m, &first, fill, &[LENGTH - 1, LENGTH + 1, r.below(MOST_BYTES as u32 + 1) as usize]);
     let noise: Vec<u8> = (0..LENGTH).map(|_| r.byte()).collect();
     m.bytes(&noise);
     m.bytes(&[&image[..16], &noise[16..]].concat());
@@ -167,9 +195,9 @@ fn some_lengths(m: &mut Maker, r: &mut Numbers, image: &[u8; LENGTH]) {
 
 // The stored sample.
 
-/// Some state in range that is neither power-on nor at the ends.
+/// Some state in range that is neither power-on nor at the ends, three voices muted.
 fn any_state() -> State {
-    state(&mut Numbers::new(6))
+    State { mutes: 0b01_0110, ..state(&mut Numbers::new(6)) }
 }
 
 /// Each byte of three images set to one more, to 255, to the largest that is accepted there and to one more than that.
@@ -251,12 +279,52 @@ pub fn part_pairs(m: &mut Maker) {
     m.bytes(&with(&image, &all[192..]));
 }
 
+/// Both editions: their numbers, bytes 418 and 419, each with what the other has there, and faults that both know.
+pub fn part_editions(m: &mut Maker) {
+    // edition 2, and edition 1 with bits at 418
+    m.load(&any_state());
+    m.image();
+    for value in [0, 1, 2, 32, 63, 64, 65, 127, 128, 192, 255] {
+        m.byte(MUTES, value);
+        m.byte(MUTES + 1, value);
+    }
+    for bits in [1, 8, 32, 63] {
+        m.mute(bits);
+        m.byte(EDITION, 1);
+    }
+    // edition 1: nothing is muted, and it is written back as edition 2
+    for state in [largest(), any_state()] {
+        m.load_first_edition(&state);
+        m.image();
+        for value in [0, 1, 3, 4, 17, 18, 128, 129, 130, 255] {
+            m.byte(EDITION, value);
+        }
+        for value in [1, 2, 128, 255] {
+            m.byte(EDITION + 1, value);
+        }
+    }
+    let first = first_edition(m.present_image());
+    for (low, high) in [(0, 1), (1, 1), (1, 2), (1, 128), (255, 255)] {
+        m.bytes(&with(&first, &[(EDITION, low), (EDITION + 1, high)]));
+    }
+    for (bits, zero) in [(64, 0), (255, 0), (0, 1), (0, 255), (1, 1)] {
+        m.bytes(&with(&first, &[(MUTES, bits), (MUTES + 1, zero)]));
+    }
+    // the lower fault of two, a header's, and other lengths
+    for (at, value) in [(16, 64), (222, 8), (378, 2), (409, 1), (417, 2)] {
+        m.bytes(&with(&first, &[(at, value), (MUTES, 1)]));
+    }
+    m.bytes(&with(&first, &[(15, 0), (MUTES, 1)]));
+    lengths(m, &first, Some(0), &[LENGTH - 1, LENGTH + 1]);
+    m.state();
+}
+
 /// Other lengths, alone and with a header or a field at fault: 9 comes before 10, and 10 before 11.
 pub fn part_lengths(m: &mut Maker) {
     m.power();
     let image = m.present_image();
     lengths(m, &image, None, &LENGTHS);
     lengths(m, &image, Some(0), &[MOST_BYTES, 418, 15, LENGTH]);
-    lengths(m, &with(&image, &[(0, 2), (16, 64)]).try_into().unwrap(), Some(0), &[0, 16, 17, 419, 421, LENGTH]);
+    lengths(m, &with(&image, &[(0, 3), (16, 64)]).try_into().unwrap(), Some(0), &[0, 16, 17, 419, 421, LENGTH]);
     m.image();
 }

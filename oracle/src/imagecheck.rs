@@ -1,6 +1,6 @@
-//! What document 01 answers for bytes that are read as an image: refusals 9, 10 and 11. The given Rust has no image, so
-//! this is a second reading of the document and no given program: every fault is collected, sentence by sentence, and
-//! the lowest one is carried.
+//! What document 01 answers for bytes that are read as an image, and 02 (v) for its two editions: refusals 9, 10 and 11. The
+//! given Rust has no image, so this is a second reading of the documents and no given program: every fault is collected,
+//! sentence by sentence, and the lowest one is carried.
 
 use crate::log::Refused;
 
@@ -10,16 +10,18 @@ const CHANNELS: [usize; 6] = [208, 240, 272, 304, 336, 368];
 const NOISE: usize = 368;
 const SWEEP: usize = 400;
 
-/// u16 edition 1, u16 header length 16, u32 total 420, u16 waves 5, u16 channels 6, u16 channel offset 208, u16 sweep
-/// offset 400.
-const HEADER: [u8; 16] = [1, 0, 16, 0, 0xA4, 0x01, 0, 0, 5, 0, 6, 0, 208, 0, 0x90, 0x01];
+/// The header behind the edition: u16 header length 16, u32 total 420, u16 waves 5, u16 channels 6, u16 channel offset 208, u16
+/// sweep offset 400.
+const HEADER: [u8; 14] = [16, 0, 0xA4, 0x01, 0, 0, 5, 0, 6, 0, 208, 0, 0x90, 0x01];
 
 /// "image not 420 bytes; header differs; field at fault: carries the lowest such offset"
 pub fn check(bytes: &[u8]) -> Result<(), Refused> {
     if bytes.len() != 420 {
         return Err((9, 0));
     }
-    if bytes[..16] != HEADER {
+    let edition = bytes[0] as u16 | (bytes[1] as u16) << 8;
+    // "10 for editions other than 1 and 2"
+    if !matches!(edition, 1 | 2) || bytes[2..16] != HEADER {
         return Err((10, 0));
     }
     let mut faults = Faults { image: bytes, at: Vec::new() };
@@ -27,6 +29,7 @@ pub fn check(bytes: &[u8]) -> Result<(), Refused> {
     faults.kinds();
     faults.unit();
     faults.zeros_and_flags();
+    faults.end(edition);
     match faults.at.iter().min() {
         Some(&lowest) => Err((11, lowest as u32)),
         None => Ok(()),
@@ -126,11 +129,20 @@ impl Faults<'_> {
             self.half(at + 30, 0);
         }
         self.byte(SWEEP + 9, 0);
-        self.half(418, 0);
         // "Flags count from bit 0, unused ones zero": a channel has five and so has the sweep
         for at in CHANNELS {
             self.byte(at, 0b1_1111);
         }
         self.byte(SWEEP, 0b1_1111);
+    }
+
+    /// What the editions have apart: "u16 zero at 418", and "the bits at byte 418, range 0 to 63, byte 419 zero".
+    fn end(&mut self, edition: u16) {
+        if edition == 1 {
+            self.half(418, 0);
+        } else {
+            self.byte(418, 63);
+            self.byte(419, 0);
+        }
     }
 }

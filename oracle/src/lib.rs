@@ -37,6 +37,7 @@ pub mod sorts;
 pub mod state;
 pub mod stream;
 pub mod tunes;
+pub mod unit;
 pub mod wavlog;
 
 pub use vsu::core::VSU;

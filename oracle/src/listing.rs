@@ -1,6 +1,7 @@
-//! What the programs over a whole log print: document 01's listing with 02 (iii)'s counts, the same frames as a WAV, and the
-//! entries that were not taken.
+//! What the programs over a whole log print: document 01's listing with 02 (iii)'s counts, the same frames as a WAV, with 02 (v)'s
+//! mutes where its input begins with them, and the entries that were not taken.
 
+use crate::console::decimal;
 use crate::log::{check, writes, Refused, Write};
 use crate::run::Run;
 use crate::sorts::{Counts, Sort};
@@ -32,7 +33,7 @@ pub fn listing(log: &[u8]) -> String {
 /// The listing of a log with these writes and this length.
 pub fn listing_of(writes: Vec<Write>, cycles: u32) -> String {
     let (count, mut run) = (writes.len(), Run::new(writes));
-    let (frames, Counts { held, none, .. }) = (run.frames(0, cycles), run.counts(0, cycles));
+    let (frames, Counts { held, none, .. }) = (run.frames(0, cycles, 0), run.counts(0, cycles));
     let mut text = format!("log 1 entries {count} cycles {cycles} frames {} held {held} none {none}\n", frames.len());
     for (number, (made, (left, right))) in (1..).zip(frames) {
         text += &format!("{number} {made} {left} {right}\n");
@@ -40,10 +41,27 @@ pub fn listing_of(writes: Vec<Write>, cycles: u32) -> String {
     text
 }
 
-/// A 16-bit stereo WAV of the frames as they are.
-pub fn wav(log: &[u8]) -> Result<Vec<u8>, Refused> {
+/// The mutes of a first line `mute B` and the log behind it; none and all of it where there is no such line.
+pub fn mutes_of(input: &[u8]) -> (u32, &[u8]) {
+    let end = input.iter().position(|&byte| byte == b'\n');
+    let line = end.and_then(|end| decimal(input[..end].strip_prefix(b"mute ")?).zip(Some(&input[end + 1..])));
+    line.unwrap_or((0, input))
+}
+
+/// The mutes, the log and its L; 1 for the mutes comes before all that is wrong with the log.
+pub fn check_wav(input: &[u8]) -> Result<(u32, &[u8], u32), Refused> {
+    let (mutes, log) = mutes_of(input);
+    if mutes > 63 {
+        return Err((1, 0));
+    }
     let (_, cycles) = check_sized(log, OPENED)?;
-    let frames = Run::new(writes(log)).frames(0, cycles);
+    Ok((mutes, log, cycles))
+}
+
+/// A 16-bit stereo WAV of the frames as they are.
+pub fn wav(input: &[u8]) -> Result<Vec<u8>, Refused> {
+    let (mutes, log, cycles) = check_wav(input)?;
+    let frames = Run::new(writes(log)).frames(0, cycles, mutes);
     let size = 4 * frames.len() as u32;
     let mut bytes = Vec::new();
     bytes.extend(b"RIFF");

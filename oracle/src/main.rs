@@ -19,7 +19,7 @@ const USAGE: &str = "usage: oracle constants
        oracle logsample                       the stored sample of logs, to standard output
        oracle logreplay                       replays a stream of logs from standard input on the oracle's own reading
        oracle lister                          01's listing of the log on standard input
-       oracle wav                             a WAV of the log on standard input
+       oracle wav                             a WAV of the log on standard input, with the mutes of a line before it
        oracle heard                           the entries of the log on standard input that were not taken
        oracle wavlog                          the log of the stored run of crates/wav, to standard output
        oracle console FILE                    the console over the log in FILE

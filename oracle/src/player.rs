@@ -1,5 +1,6 @@
 //! The player as document 01 has it ("Player" and the table of refusals), by its demand alone: the state at a cycle is that
-//! of one unbroken run from power-on, so this player is no more than a cycle, the marks' cycles and the mark memory.
+//! of one unbroken run from power-on, so this player is no more than a cycle, the marks' cycles, the mark memory and, by 02 (v),
+//! the present mutes.
 
 use crate::image::{image_of, LENGTH};
 use crate::imagecheck;
@@ -7,7 +8,7 @@ use crate::listing::{check_sized, OPENED};
 use crate::log::{check, due_before, writes, Refused};
 use crate::run::Run;
 use crate::sorts::{Counts, Sort};
-use crate::state::in_range;
+use crate::state::{in_range, State};
 use crate::vsu::traits::AudioFrame;
 
 /// What the frame buffer holds, in frames.
@@ -24,6 +25,7 @@ pub enum Call {
     SetFree,
     Clear(u32),
     GoTo(u32),
+    Mute(u32),
 }
 
 /// What a call that was not refused did.
@@ -35,6 +37,7 @@ pub enum Done {
     Set(usize),
     Cleared,
     Went,
+    Muted(u32),
 }
 
 pub struct Player {
@@ -46,6 +49,7 @@ pub struct Player {
     /// the cycle of each mark that is set
     pub marks: [Option<u32>; MARKS],
     pub memory: Vec<u8>,
+    pub mutes: u32,
 }
 
 impl Player {
@@ -59,6 +63,7 @@ impl Player {
             cycle: 0,
             marks: [None; MARKS],
             memory: vec![0; MARKS * SLOT],
+            mutes: 0,
         };
         Ok((player, count, length))
     }
@@ -67,8 +72,13 @@ impl Player {
         self.run.at(self.cycle).0
     }
 
+    /// "covers all but these bits": the run's, with the present mutes.
+    fn unit(&mut self) -> State {
+        State { mutes: self.mutes, ..self.run.at(self.cycle).1 }
+    }
+
     pub fn image(&mut self) -> [u8; LENGTH] {
-        image_of(&self.run.at(self.cycle).1)
+        image_of(&self.unit())
     }
 
     /// The due cycles before this one of the entries that were not taken.
@@ -99,7 +109,7 @@ impl Player {
         Ok(match call {
             Call::Play(n) => {
                 let (from, to) = (self.cycle, self.cycle + n);
-                let (frames, counts) = (self.run.frames(from, to), self.run.counts(from, to));
+                let (frames, counts) = (self.run.frames(from, to, self.mutes), self.run.counts(from, to));
                 self.cycle += n;
                 Done::Played(frames.into_iter().map(|(_, frame)| frame).collect(), counts)
             }
@@ -114,36 +124,43 @@ impl Player {
                 Done::Cleared
             }
             Call::GoTo(slot) => {
+                // "kept by seek and go-to-mark": the slot's mutes are not taken
                 self.cycle = self.marks[slot as usize].expect("a mark that is not set is refused");
                 Done::Went
+            }
+            Call::Mute(bits) => {
+                self.mutes = bits;
+                Done::Muted(bits)
             }
         })
     }
 
     /// "slot k at 428 × k is u32 cycle, u32 applied, image"
     fn set(&mut self, slot: usize) -> Done {
-        let (applied, state) = self.run.at(self.cycle);
-        let bytes = [&self.cycle.to_le_bytes()[..], &applied.to_le_bytes(), &image_of(&state)].concat();
+        let (applied, image) = (self.applied(), self.image());
+        let bytes = [&self.cycle.to_le_bytes()[..], &applied.to_le_bytes(), &image].concat();
         self.memory[SLOT * slot..SLOT * (slot + 1)].copy_from_slice(&bytes);
         self.marks[slot] = Some(self.cycle);
         Done::Set(slot)
     }
 
     /// What 01 refuses first. Each looks only at what the call is lent; from an opening on, with nobody else writing the
-    /// memory, only those of `mark`, `beyond` and `room` are ever given.
+    /// memory, only those of `mark`, `beyond`, `room` and a mute call are ever given.
     pub fn refused(&mut self, call: Call) -> Option<Refused> {
         let order =
             [Self::log, Self::state, Self::place, Self::memory, Self::mark, Self::slot, Self::beyond, Self::room];
         order.iter().find_map(|refusal| refusal(self, call))
     }
 
-    /// 3 to 8: "clear only the record"
+    /// 3 to 8: "clear only the record", and so a mute call
     fn log(&mut self, call: Call) -> Option<Refused> {
         lent_log(call).then(|| check(&self.log).err()).flatten()
     }
 
-    fn state(&mut self, _: Call) -> Option<Refused> {
-        (!in_range(&self.run.at(self.cycle).1)).then_some((1, 0))
+    /// "1 for a record or a mute call with bits above 63"
+    fn state(&mut self, call: Call) -> Option<Refused> {
+        let above = matches!(call, Call::Mute(64..));
+        (above || !in_range(&self.unit())).then_some((1, 0))
     }
 
     fn place(&mut self, call: Call) -> Option<Refused> {
@@ -197,5 +214,5 @@ impl Player {
 }
 
 fn lent_log(call: Call) -> bool {
-    !matches!(call, Call::Clear(_))
+    !matches!(call, Call::Clear(_) | Call::Mute(_))
 }

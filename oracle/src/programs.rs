@@ -2,7 +2,7 @@
 
 use crate::console::{lines, session};
 use crate::exchange::{wrong, TRIED};
-use crate::listing::{check_sized, heard, listing, listing_of, refused, wav, LISTED, OPENED};
+use crate::listing::{check_sized, check_wav, heard, listing, listing_of, refused, wav, LISTED, OPENED};
 use crate::log::{bytes_of, check, writes};
 use crate::pairlist;
 use crate::pairs;
@@ -10,7 +10,7 @@ use crate::panels;
 use crate::process::{run, Printed, Way, HUNG};
 use crate::random::Numbers;
 use crate::recorder::{record, Recorded, PROGRAM};
-use crate::scripts::script;
+use crate::scripts::{front, script};
 use crate::tunes;
 use std::collections::BTreeMap;
 use std::fs;
@@ -53,7 +53,7 @@ pub struct Case {
     pub kind: Kind,
     /// empty for the recorder, which makes one, and for pairs
     pub log: Vec<u8>,
-    /// empty but for the console, the recorder and pairs
+    /// empty but for the console, the recorder and pairs; what stands before the log of a WAV
     pub script: Vec<u8>,
     pub way: Way,
     /// of the states that pairs are tried on
@@ -68,7 +68,8 @@ pub fn case(kind: Kind, r: &mut Numbers) -> Case {
         Kind::Record | Kind::Exchange => Vec::new(),
     };
     let script = match kind {
-        Kind::List | Kind::Wav | Kind::Heard => Vec::new(),
+        Kind::List | Kind::Heard => Vec::new(),
+        Kind::Wav => front(r, &log),
         Kind::Drive => script(r, &log),
         Kind::Record => panels::script(r),
         Kind::Exchange => pairs::script(r),
@@ -112,13 +113,16 @@ pub struct Wanted {
 }
 
 pub fn wanted(case: &Case) -> Wanted {
-    let most = if case.kind == Kind::List { LISTED } else { OPENED };
-    let checked = check_sized(&case.log, most);
-    let cycles = checked.map_or(0, |(_, cycles)| cycles as u64);
+    let checked = match case.kind {
+        Kind::List => check_sized(&case.log, LISTED).map(|(_, cycles)| cycles),
+        Kind::Wav => check_wav(&input(case)).map(|(_, _, cycles)| cycles),
+        _ => check_sized(&case.log, OPENED).map(|(_, cycles)| cycles),
+    };
+    let cycles = checked.map_or(0, u64::from);
     let mut wanted = Wanted { accepted: checked.is_ok(), cycles, ..Wanted::default() };
     match case.kind {
         Kind::List => wanted.printed.out = listing(&case.log).into(),
-        Kind::Wav => match wav(&case.log) {
+        Kind::Wav => match wav(&input(case)) {
             Ok(bytes) => wanted.printed.out = bytes,
             Err(why) => wanted.printed.err = refused(why).into(),
         },
@@ -132,6 +136,11 @@ pub fn wanted(case: &Case) -> Wanted {
         Kind::Exchange => {}
     }
     wanted
+}
+
+/// The standard input of a program over a log.
+fn input(case: &Case) -> Vec<u8> {
+    [&case.script[..], &case.log].concat()
 }
 
 /// The listing is one of the writes that were taken, on the Rust: the log's bytes are not used for it.
@@ -275,7 +284,7 @@ impl Against {
 
     fn run(&self, case: &Case, wanted: &Wanted) -> Result<(Printed, i32), String> {
         match case.kind {
-            Kind::List | Kind::Wav | Kind::Heard => run(&self.program, &case.log, case.way),
+            Kind::List | Kind::Wav | Kind::Heard => run(&self.program, &input(case), case.way),
             Kind::Exchange => run(&self.program, &case.script, case.way),
             Kind::Drive => {
                 let file = self.room.join("log");

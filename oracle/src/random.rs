@@ -7,7 +7,7 @@ use crate::stream::{Maker, MOST};
 /// The most cycles of a random case unless the command line says otherwise.
 pub const MAX_CYCLES: u32 = 100_000;
 
-/// One case in so many is one of damaged images, which has some 4,900 checks where another has some 70.
+/// One case in so many is one of damaged images, which has some 5,200 checks where another has some 75.
 const IMAGE_CASES: u32 = 50;
 
 /// splitmix64.
@@ -101,7 +101,7 @@ impl Numbers {
     }
 }
 
-/// A random state in range, with counters at or next to their limits.
+/// A random state in range, with counters at or next to their limits and nothing muted.
 pub fn state(r: &mut Numbers) -> State {
     let mut state = power_on();
     let loud = r.flag() == 1;
@@ -124,6 +124,22 @@ pub fn state(r: &mut Numbers) -> State {
     }
     state.output = if r.one_in(3) { r.below(480) } else { r.counter(479) };
     state
+}
+
+/// Such a state with any mutes.
+pub fn muted_state(r: &mut Numbers) -> State {
+    State { mutes: mutes(r), ..state(r) }
+}
+
+/// Mutes: none, one, all, all but one, any.
+pub fn mutes(r: &mut Numbers) -> u32 {
+    match r.below(8) {
+        0 | 1 => 0,
+        2 | 3 => 1 << r.below(6),
+        4 => 63,
+        5 => 63 ^ 1 << r.below(6),
+        _ => r.below(64),
+    }
 }
 
 fn channel(r: &mut Numbers, index: usize) -> Channel {
@@ -211,7 +227,7 @@ fn about_to_sweep(state: &mut State, r: &mut Numbers) {
     s.step_counter = if s.slow == 1 { 153_608 } else { 19_200 } - r.below(3);
 }
 
-/// One random case: a start, then writes and runs, each with the image or its sum after it; or damaged images.
+/// One random case: a start, then writes, mutes and runs, each with the image or its sum after it; or damaged images.
 pub fn case(maker: &mut Maker, r: &mut Numbers, max_cycles: u32) {
     if r.one_in(IMAGE_CASES) {
         return imagecases::case(maker, r);
@@ -230,17 +246,21 @@ pub fn case(maker: &mut Maker, r: &mut Numbers, max_cycles: u32) {
                 maker.write(address, byte);
             }
         }
+        if r.one_in(3) {
+            let bits = mutes(r);
+            maker.mute(bits);
+        }
         left -= run(maker, r, left);
     }
 }
 
-/// Power-on or a random state in range, and its image.
+/// Power-on or a random state in range, by either edition, and its image.
 pub fn start(maker: &mut Maker, r: &mut Numbers) {
-    if r.one_in(5) {
-        maker.power();
-    } else {
-        let start = state(r);
-        maker.load(&start);
+    match r.below(10) {
+        0 | 1 => maker.power(),
+        2 => maker.load_first_edition(&state(r)),
+        3..=5 => maker.load(&state(r)),
+        _ => maker.load(&muted_state(r)),
     }
     maker.image();
 }

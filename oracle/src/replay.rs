@@ -2,17 +2,17 @@
 //! the words of `crates/replay`.
 
 use crate::digest::{sum_of, FrameSum};
-use crate::image::{image, image_of, read_image};
+use crate::image::{image_of, read_image, written_back};
 use crate::log::Refused;
 use crate::reader::Reader;
-use crate::state::{power_on, write};
+use crate::state::power_on;
 use crate::stream::{op, Op, Totals};
-use crate::vsu::core::VSU;
+use crate::unit::Unit;
 
 /// The totals when everything agrees, else what differs first.
 pub fn replay(bytes: &[u8]) -> Result<Totals, String> {
     let mut reader = Reader::new(bytes);
-    let mut unit = VSU::new();
+    let mut unit = Unit::new();
     let mut totals = Totals::default();
     for number in 0u64.. {
         let answer = op(&mut reader).and_then(|op| step(op, &mut unit, &mut totals));
@@ -26,41 +26,42 @@ pub fn replay(bytes: &[u8]) -> Result<Totals, String> {
 }
 
 /// Does one op; tells whether the stream goes on.
-fn step(op: Op, unit: &mut VSU, totals: &mut Totals) -> Result<bool, String> {
+fn step(op: Op, unit: &mut Unit, totals: &mut Totals) -> Result<bool, String> {
     match op {
         Op::Power => {
-            *unit = VSU::new();
+            *unit = Unit::new();
             totals.cases += 1;
         }
         Op::Load(bytes) => {
             let (state, answer) = read_image(&*bytes);
             same("L refused", 0, answer.map_or_else(|why| why.0, |_| 0))?;
-            *unit = write(&state);
+            *unit = Unit::of(&state);
             totals.cases += 1;
         }
-        Op::Write { address, byte } => unit.set_u8(address as usize, byte),
+        Op::Write { address, byte } => unit.write(address, byte),
+        Op::Mute { bits } => unit.mutes = bits.into(),
         Op::Run { n, made } => {
             let mut sink = FrameSum::default();
-            unit.step(n as usize, &mut sink);
+            unit.step(n, &mut sink);
             same("R frames", made.frames, sink.frames)?;
             same("R sum", made.sum, sink.sum)?;
             totals.checks += 1;
             totals.cycles += n as u64;
         }
         Op::Silent { n } => {
-            unit.step(n as usize, &mut FrameSum::default());
+            unit.step(n, &mut FrameSum::default());
             totals.cycles += n as u64;
         }
         Op::State { sum } => {
-            same("S sum", sum, sum_of(&image(unit)))?;
+            same("S sum", sum, sum_of(&unit.image()))?;
             totals.checks += 1;
         }
         Op::Image(bytes) => {
-            same_bytes("I image", &*bytes, &image(unit))?;
+            same_bytes("I image", &*bytes, &unit.image())?;
             totals.checks += 1;
         }
         Op::Byte { at, value, answer } => {
-            let mut bytes = image(unit);
+            let mut bytes = unit.image();
             bytes[at as usize] = value;
             read("B", &bytes, answer)?;
             totals.checks += 1;
@@ -74,14 +75,14 @@ fn step(op: Op, unit: &mut VSU, totals: &mut Totals) -> Result<bool, String> {
     Ok(true)
 }
 
-/// An accepted image comes out again as it went in; with a refused one comes the power-on state.
+/// An accepted image comes out again as it went in, but for its edition; with a refused one comes the power-on state.
 fn read(what: &str, bytes: &[u8], wanted: Refused) -> Result<(), String> {
     let (state, answer) = read_image(bytes);
     let (number, carried) = answer.map_or_else(|why| why, |_| (0, 0));
     same(&format!("{what} number"), wanted.0, number)?;
     same(&format!("{what} carried"), wanted.1, carried)?;
     match answer {
-        Ok(()) => same_bytes(&format!("{what} again"), bytes, &image_of(&state)),
+        Ok(()) => same_bytes(&format!("{what} again"), &written_back(bytes), &image_of(&state)),
         Err(_) => same_bytes(&format!("{what} handed back"), &image_of(&power_on()), &image_of(&state)),
     }
 }

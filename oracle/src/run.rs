@@ -1,12 +1,12 @@
 //! One unbroken run of a log from power-on, on the given Rust: what document 01 means by the state at a cycle and by the
-//! frames of a span, and 02 (iii) by the sort of an entry. All are asked for by their cycles alone, so nothing that a player did
-//! before can be heard in them.
+//! frames of a span, and 02 (iii) by the sort of an entry. All are asked for by their cycles alone, the frames with the present
+//! mutes, so nothing that a player did before can be heard in them. The run itself is unmuted.
 
 use crate::digest::Frames;
-use crate::fields::Fields;
 use crate::log::Write;
 use crate::sorts::{sort, Counts, Sort};
 use crate::state::{read, State};
+use crate::unit::copy;
 use crate::vsu::core::VSU;
 use crate::vsu::traits::AudioFrame;
 
@@ -19,7 +19,7 @@ pub struct Run {
     last: Point,
     /// the run at 0, EVERY, 2 × EVERY and so on
     kept: Vec<Point>,
-    /// each frame with the cycle that made it
+    /// each frame with nothing muted, and the cycle that made it
     frames: Vec<(u32, AudioFrame)>,
     /// of the writes that the run came to, each in the unit as it found it
     sorts: Vec<Sort>,
@@ -46,19 +46,38 @@ impl Run {
     pub fn at(&mut self, cycle: u32) -> (u32, State) {
         if self.asked.0 != cycle {
             self.reach(cycle);
-            let mut point = self.kept[(cycle / EVERY) as usize].copy();
-            while point.cycle < cycle {
-                point.step(&self.writes, |_, _| {});
-            }
+            let mut point = self.kept_before(cycle);
+            point.run_to(cycle, &self.writes);
             self.asked = (cycle, point.applied as u32, read(&point.unit));
         }
         (self.asked.1, self.asked.2.clone())
     }
 
-    /// The frames that the cycles `from + 1` to `to` make, each with its cycle.
-    pub fn frames(&mut self, from: u32, to: u32) -> Vec<(u32, AudioFrame)> {
+    fn kept_before(&self, cycle: u32) -> Point {
+        self.kept[(cycle / EVERY) as usize].muted(0)
+    }
+
+    /// The frames that the cycles `from + 1` to `to` make with these mutes, each with its cycle.
+    pub fn frames(&mut self, from: u32, to: u32, mutes: u32) -> Vec<(u32, AudioFrame)> {
         self.reach(to);
-        self.frames.iter().filter(|(made, _)| from < *made && *made <= to).copied().collect()
+        let frames = self.frames.iter().filter(|(made, _)| from < *made && *made <= to).copied().collect();
+        if mutes == 0 {
+            return frames;
+        }
+        self.made_again(frames, mutes)
+    }
+
+    /// The cycle that made a frame is run once more on a copy, muted for that cycle alone, after the writes due there: they may be
+    /// of volumes.
+    fn made_again(&self, mut frames: Vec<(u32, AudioFrame)>, mutes: u32) -> Vec<(u32, AudioFrame)> {
+        let Some((first, _)) = frames.first() else { return frames };
+        let mut point = self.kept_before(first - 1);
+        for (made, frame) in &mut frames {
+            point.run_to(*made - 1, &self.writes);
+            point.write_due(&self.writes, |_, _| {});
+            *frame = point.muted(mutes).run_cycle().expect("the cycle that made a frame makes one again");
+        }
+        frames
     }
 
     /// The entries due at `from` up to but not at `to`, each with its index and its sort.
@@ -80,7 +99,7 @@ impl Run {
             let made = self.last.step(&self.writes, judge);
             self.frames.extend(made.map(|frame| (self.last.cycle, frame)));
             if self.last.cycle % EVERY == 0 {
-                self.kept.push(self.last.copy());
+                self.kept.push(self.last.muted(0));
             }
         }
     }
@@ -89,24 +108,34 @@ impl Run {
 impl Point {
     /// One cycle. "One due at T goes in before cycle T + 1 runs": at cycle T, what is due there is written first. Each write is
     /// shown before it is made, with the unit as the writes before it left it.
-    fn step(&mut self, writes: &[Write], mut show: impl FnMut(&VSU, Write)) -> Option<AudioFrame> {
+    fn step(&mut self, writes: &[Write], show: impl FnMut(&VSU, Write)) -> Option<AudioFrame> {
+        self.write_due(writes, show);
+        self.run_cycle()
+    }
+
+    fn write_due(&mut self, writes: &[Write], mut show: impl FnMut(&VSU, Write)) {
         while let Some(w) = writes.get(self.applied).filter(|w| w.due == self.cycle) {
             show(&self.unit, *w);
             self.unit.set_u8(w.address as usize, w.byte);
             self.applied += 1;
         }
+    }
+
+    fn run_cycle(&mut self) -> Option<AudioFrame> {
         let mut made = Frames::default();
         self.unit.step(1, &mut made);
         self.cycle += 1;
         made.0.pop()
     }
 
-    /// Every field of the Rust's unit, those that no image holds too.
-    fn copy(&self) -> Point {
-        let mut values = Vec::new();
-        self.unit.dump(&mut Vec::new(), &mut |_, value| values.push(value));
-        let (mut unit, mut values) = (VSU::new(), values.into_iter());
-        unit.load(&mut Vec::new(), &mut |_| values.next());
-        Point { unit, cycle: self.cycle, applied: self.applied }
+    fn run_to(&mut self, cycle: u32, writes: &[Write]) {
+        while self.cycle < cycle {
+            self.step(writes, |_, _| {});
+        }
+    }
+
+    /// A copy.
+    fn muted(&self, mutes: u32) -> Point {
+        Point { unit: copy(&self.unit, mutes), cycle: self.cycle, applied: self.applied }
     }
 }

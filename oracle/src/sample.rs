@@ -8,7 +8,7 @@ use crate::stream::Maker;
 
 type Part = (&'static str, fn(&mut Maker));
 
-pub const PARTS: [Part; 22] = [
+pub const PARTS: [Part; 24] = [
     ("frames", frames),
     ("registers", registers),
     ("waves", waves),
@@ -25,11 +25,13 @@ pub const PARTS: [Part; 22] = [
     ("banks", banks),
     ("frequencies", frequencies),
     ("mixing", mixing),
+    ("mutes", mutes),
     ("long runs", long_runs),
     ("random states", random_states),
     ("image bytes", imagecases::part_bytes),
     ("image noise", imagecases::part_noise),
     ("image pairs", imagecases::part_pairs),
+    ("image editions", imagecases::part_editions),
     ("image lengths", imagecases::part_lengths),
 ];
 
@@ -593,8 +595,8 @@ fn frequencies(m: &mut Maker) {
     run(m, 960);
 }
 
-fn mixing(m: &mut Maker) {
-    // as loud as it gets: six voices at 913
+/// As loud as it gets, and one cycle before a frame: six voices at 913 that stay as they are.
+fn loud() -> State {
     let mut s = busy();
     s.waves = [63; 160];
     for c in &mut s.channels {
@@ -606,7 +608,11 @@ fn mixing(m: &mut Maker) {
     s.channels[NOISE].shift = 0x7FFF;
     s.channels[NOISE].position = 1;
     s.output = 479;
-    m.load(&s);
+    s
+}
+
+fn mixing(m: &mut Maker) {
+    m.load(&loud());
     run(m, 1);
     for channel in 0..6 {
         m.write(base(channel), 0x00);
@@ -639,6 +645,78 @@ fn mixing(m: &mut Maker) {
     // many sums in a row
     m.load(&busy());
     run(m, 24_000);
+}
+
+/// A state in which the next cycle moves whatever can move: tick counters, envelopes, samples, auto-stop, the sweep past its end
+/// and a frame.
+fn about_to_move() -> State {
+    let mut s = busy();
+    for (i, c) in s.channels.iter_mut().enumerate() {
+        (c.live_tick, c.envelope_tick) = (76_804, 307_218);
+        c.auto_stop = u32::from(i != SWEPT);
+        c.live_counter = c.live_interval - i as u32 % 2;
+        c.envelope_step = c.envelope_interval;
+        c.tick = if i == NOISE { 39 } else { 3 };
+        c.frequency_counter = 2047 - c.frequency;
+    }
+    (s.sweep.interval_counter, s.sweep.step_counter) = (2, 19_200);
+    (s.sweep.up, s.sweep.shift, s.sweep.next) = (1, 0, 1_024);
+    s.output = 479;
+    s
+}
+
+fn mutes(m: &mut Maker) {
+    // six loud voices, then such as can be told apart: none, each alone, all but one, all
+    let mut apart = loud();
+    for (i, c) in apart.channels.iter_mut().enumerate() {
+        (c.left, c.right) = (15 - i as u32, 10 + i as u32);
+    }
+    for state in [loud(), apart] {
+        m.load(&state);
+        run(m, 1);
+        for bits in [1, 2, 4, 8, 16, 32, 63, 62, 61, 59, 55, 47, 31, 0, 42] {
+            m.mute(bits);
+            run(m, 480);
+        }
+    }
+    // the frame goes by the mutes that are there when it is made
+    m.mute(63);
+    run(m, 479);
+    m.mute(5);
+    run(m, 1);
+    // power-on has none
+    m.power();
+    run(m, 480);
+
+    // all else moves as if unmuted
+    for mutes in [0, 63, 0b10_0001, 0b01_1110] {
+        m.load(&State { mutes, ..about_to_move() });
+        run(m, 1);
+        m.image();
+        run(m, 19_201);
+    }
+    // a muted voice plays: what it holds off stays held off, and what is written to it is heard when it is not muted any more
+    m.load(&State { mutes: 63, ..busy() });
+    m.write(0x004, 0x2A);
+    m.write(0x284, 0x2A);
+    m.write(base(SWEPT), 0x00);
+    m.write(0x284, 0x2A);
+    m.write(base(1) + 0x04, 0xFF);
+    m.write(base(1) + 0x10, 0xF0);
+    run(m, 480);
+    m.mute(0b11_1101);
+    run(m, 960);
+    m.write(0x580, 1);
+    m.write(0x004, 0x2A);
+    m.write(base(2), 0x80);
+    run(m, 480);
+    // many sums in a row
+    m.load(&State { mutes: 0b10_0101, ..busy() });
+    run(m, 9_600);
+    m.mute(0b01_0000);
+    m.silent(4_700);
+    m.state();
+    run(m, 9_600);
 }
 
 fn long_runs(m: &mut Maker) {
@@ -676,7 +754,7 @@ fn long_runs(m: &mut Maker) {
 fn random_states(m: &mut Maker) {
     let mut r = Numbers::new(5);
     for _ in 0..12 {
-        m.load(&random::state(&mut r));
+        m.load(&random::muted_state(&mut r));
         m.image();
         let (address, byte) = random::write(&mut r);
         m.write(address, byte);

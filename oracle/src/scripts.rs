@@ -1,10 +1,11 @@
 //! Random input for the console: calls of every kind, and lines that are none. The oracle's own player goes along, so that
-//! targets lie around where the player stands.
+//! targets lie around where the player stands. And the line before the log of a WAV.
 
 use crate::console::{parse, Line};
+use crate::listing::OPENED;
 use crate::log::writes;
 use crate::player::Player;
-use crate::random::Numbers;
+use crate::random::{mutes, Numbers};
 use crate::tunes::FULL;
 
 /// The most cycles that the calls of one script have a player run; more where one play has to fill the frame buffer.
@@ -43,7 +44,7 @@ pub fn script(r: &mut Numbers, log: &[u8]) -> Vec<u8> {
         script.play_full();
     }
     let many = script.r.one_in(30);
-    for _ in 0..if many { 200 } else { 5 + script.r.below(40) } {
+    for _ in 0..if many { 200 } else { 5 + script.r.below(46) } {
         script.step();
     }
     script.end();
@@ -52,7 +53,7 @@ pub fn script(r: &mut Numbers, log: &[u8]) -> Vec<u8> {
 
 impl Script<'_> {
     fn step(&mut self) {
-        match self.r.below(27) {
+        match self.r.below(31) {
             0..=5 => self.play(),
             6..=9 => self.seek(),
             10 | 11 => self.slot_call("set"),
@@ -63,6 +64,8 @@ impl Script<'_> {
             21 => self.send(b"memory"),
             22 if self.r.one_in(4) => self.fill(),
             23 | 24 if !self.unheard.is_empty() => self.span(),
+            25..=27 => self.mute(),
+            28 => self.rehearse(),
             _ => {
                 let line = bad(self.r, &CALLS);
                 self.send(&line);
@@ -171,6 +174,37 @@ impl Script<'_> {
         self.send_number("seek", to);
     }
 
+    fn mute(&mut self) {
+        let bits = bits(self.r);
+        self.send_number("mute", bits);
+    }
+
+    /// Mutes, and others or the same before a way back, by a mark or without; then what is there, heard and stored.
+    fn rehearse(&mut self) {
+        self.mute();
+        let slot = if self.r.one_in(3) { None } else { Some(self.r.below(self.slots)) };
+        slot.into_iter().for_each(|slot| self.send_number("set", slot));
+        if self.r.one_in(2) {
+            self.play();
+        }
+        if !self.r.one_in(3) {
+            self.mute();
+        }
+        match slot {
+            Some(slot) => self.send_number("goto", slot),
+            None => {
+                let to = self.r.below(self.player.cycle + 1);
+                self.send_number("seek", to);
+            }
+        }
+        self.send(b"image");
+        let n = self.r.pick(&[480, 960, 4_800, 48_000]);
+        self.send_number("play", n);
+        if self.r.one_in(2) {
+            self.send(b"memory");
+        }
+    }
+
     fn slot_call(&mut self, word: &str) {
         let slot = match self.r.below(12) {
             0 => 14 + self.r.below(7),
@@ -216,6 +250,31 @@ impl Script<'_> {
     }
 }
 
+/// Bits of a mute call: mostly such as there are, some above them.
+fn bits(r: &mut Numbers) -> u32 {
+    match r.below(6) {
+        0 => r.pick(&[64, 64, 65, 66, 127, 128, 192, 255, 256, 257, 319, 65_536, 0x8000_0000, u32::MAX]),
+        1 | 2 => r.below(64),
+        _ => mutes(r),
+    }
+}
+
+/// What stands before the log of a WAV: nothing, the line with its mutes, or what is nearly one, with or without an end. A log
+/// around the limit of size mostly has the line, which is no part of it, and nothing that would be one.
+pub fn front(r: &mut Numbers, log: &[u8]) -> Vec<u8> {
+    let small = log.len() < OPENED / 2;
+    match r.below(8) {
+        0 | 1 => Vec::new(),
+        2 if small => Vec::new(),
+        3 if small => any(r, NEARLY).into(),
+        4 if small => [&bad(r, &FRONT)[..], b"\n"].concat(),
+        _ => {
+            let width = if r.one_in(4) { 1 + r.below(10) as usize } else { 1 };
+            format!("mute {:0width$}\n", bits(r)).into_bytes()
+        }
+    }
+}
+
 /// Nothing but newlines.
 pub fn blank(r: &mut Numbers) -> Vec<u8> {
     [&b""[..], b"\n", b"\n\n", b"\r\n"][r.below(4) as usize].to_vec()
@@ -232,14 +291,26 @@ pub struct Forms {
 }
 
 const CALLS: Forms = Forms {
-    good: "play 480|play 1|seek 0|seek 481|set 3|set free|clear 0|goto 1|image|memory",
+    good: "play 480|play 1|seek 0|seek 481|set 3|set free|clear 0|goto 1|image|memory|mute 5|mute 63|mute 0",
     odd:
         "| |play|play |seek|set|set |clear|goto|goto |play480|play 1 2|play 0x10|play 1e3|play 4.0|play 4,000|play one|\
         play free|seek free|clear free|goto free|set Free|set fre|set freee|set free |set  free|setfree|image 0|images|\
         mage|memory 0|memor|unknown|open|quit|go to 1|stop|play -0|play +0|seek 18446744073709551616|play 4294967296|\
-        goto 4294967297",
-    numbered: "play _|seek _|set _|clear _|goto _",
+        goto 4294967297|mute|mute |mute5|mutes 5|mute free|mute all|mute 0x3f|mute 1 2|mute 1,2|mute 101b|unmute 1|unmute|\
+        mute 00000000063|mute 4294967296|mute 4294967359|mute 63.0",
+    numbered: "play _|seek _|set _|clear _|goto _|mute _",
 };
+
+const FRONT: Forms = Forms {
+    good: "mute 5|mute 63|mute 64|mute 0",
+    odd: "|mute|mute |mute5|mutes 5|mute free|mute 1 2|mute 1,2|unmute 1|play 1|mute 18446744073709551621",
+    numbered: "mute _",
+};
+
+/// No line with mutes, but for the last two, which have more between it and the log.
+const NEARLY: &str =
+    "mute 5|mute 5\r\n|mute 5 \n|mute  5\n|mute\t5\n| mute 5\n|Mute 5\n|mute +5\n|mute 0x5\n|mute 5\0\n|\
+    mute 00000000005\n|mute 4294967296\n|mute 4294967301\n|\nmute 5\n|mute 5\n\n|mute 5\nmute 5\n";
 
 /// Numbers around their limits: ten digits and eleven, the largest and one more, signs, other digits.
 const NUMBERS: &str =

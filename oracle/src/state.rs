@@ -1,4 +1,5 @@
-//! A whole state of the unit as plain numbers, read out of the Rust and put back into it.
+//! A whole state of the unit as plain numbers, read out of the Rust and put back into it. The Rust has no mutes: none are read out
+//! of it, and none are put into it. `unit` keeps them beside it.
 
 use crate::fields::{Fields, Part};
 use crate::vsu::core::VSU;
@@ -62,9 +63,11 @@ pub struct State {
     pub channels: [Channel; 6],
     pub sweep: Sweep,
     pub output: u32,
+    /// document 02 (v): "six mute bits, bit k for channel k"
+    pub mutes: u32,
 }
 
-/// Power-on by document 01: all zero and off, tap 14.
+/// Power-on by document 01: all zero and off, tap 14. Nothing is muted.
 pub fn power_on() -> State {
     let mut state = State {
         waves: [0; 160],
@@ -72,6 +75,7 @@ pub fn power_on() -> State {
         channels: Default::default(),
         sweep: Sweep::default(),
         output: 0,
+        mutes: 0,
     };
     state.channels[NOISE].bank = 14;
     state
@@ -228,10 +232,11 @@ pub fn named(state: &State) -> Vec<(String, u32)> {
         list.push((format!("sweep.{name}"), v));
     }
     list.push(("output".to_string(), state.output));
+    list.push(("mutes".to_string(), state.mutes));
     list
 }
 
-/// Document 01, "Range rules of a state".
+/// Document 01, "Range rules of a state", and 02 (v) for the mutes.
 pub fn in_range(state: &State) -> bool {
     let flag = |v: u32| v <= 1;
     let channels = state.channels.iter().enumerate().all(|(i, c)| {
@@ -273,6 +278,7 @@ pub fn in_range(state: &State) -> bool {
     channels
         && sweep
         && state.output <= 479
+        && state.mutes <= 63
         && state.waves.iter().all(|v| *v <= 63)
         && state.modulation.iter().all(|v| *v <= 255)
 }

@@ -1,12 +1,12 @@
 //! The stream that a replaying program reads: made here with the Rust's answers in it, and read here.
 
 use crate::digest::{sum_of, FrameSum};
-use crate::image::{image_of, state_of, LENGTH};
+use crate::image::{first_edition, image_of, state_of, LENGTH};
 use crate::imagecheck::check;
 use crate::log::Refused;
 use crate::reader::Reader;
-use crate::state::{in_range, read, write, State};
-use crate::vsu::core::VSU;
+use crate::state::{in_range, State};
+use crate::unit::Unit;
 
 /// The most cycles of one op.
 pub const MOST: u32 = 1_900_000;
@@ -20,6 +20,7 @@ pub enum Op {
     Power,
     Load(Box<[u8; LENGTH]>),
     Write { address: u32, byte: u8 },
+    Mute { bits: u8 },
     Run { n: u32, made: FrameSum },
     Silent { n: u32 },
     State { sum: u32 },
@@ -50,43 +51,60 @@ pub fn answer(bytes: &[u8]) -> Refused {
 
 /// Makes a stream: does each op on the Rust's unit and writes it down with the answer.
 pub struct Maker {
-    unit: VSU,
+    unit: Unit,
     pub bytes: Vec<u8>,
     pub totals: Totals,
 }
 
 impl Maker {
     pub fn new() -> Self {
-        Maker { unit: VSU::new(), bytes: Vec::new(), totals: Totals::default() }
+        Maker { unit: Unit::new(), bytes: Vec::new(), totals: Totals::default() }
     }
 
     pub fn power(&mut self) {
-        self.unit = VSU::new();
+        self.unit = Unit::new();
         self.bytes.push(b'P');
         self.totals.cases += 1;
     }
 
     pub fn load(&mut self, state: &State) {
+        self.load_as(state, image_of(state));
+    }
+
+    /// By an image of edition 1, which has no mutes.
+    pub fn load_first_edition(&mut self, state: &State) {
+        self.load_as(&State { mutes: 0, ..state.clone() }, first_edition(image_of(state)));
+    }
+
+    fn load_as(&mut self, state: &State, image: [u8; LENGTH]) {
         assert!(in_range(state), "a state out of range must not be loaded: {state:?}");
-        self.unit = write(state);
+        self.unit = Unit::of(state);
         self.bytes.push(b'L');
-        self.bytes.extend_from_slice(&image_of(state));
+        self.bytes.extend_from_slice(&image);
         self.totals.cases += 1;
     }
 
     /// A register write, and the sum of the image after it: no write goes without.
     pub fn write(&mut self, address: u32, byte: u8) {
-        self.unit.set_u8(address as usize, byte);
+        self.unit.write(address, byte);
         self.bytes.push(b'W');
         self.put(address);
         self.bytes.push(byte);
         self.state();
     }
 
+    /// The mutes, and the sum of the image after them.
+    pub fn mute(&mut self, bits: u32) {
+        assert!(bits <= 63);
+        self.unit.mutes = bits;
+        self.bytes.extend([b'M', bits as u8]);
+        self.state();
+    }
+
     pub fn run(&mut self, n: u32) {
         assert!(n <= MOST);
         let mut made = FrameSum::default();
-        self.unit.step(n as usize, &mut made);
+        self.unit.step(n, &mut made);
         self.bytes.push(b'R');
         self.put(n);
         self.put(made.frames);
@@ -97,7 +115,7 @@ impl Maker {
 
     pub fn silent(&mut self, n: u32) {
         assert!(n <= MOST);
-        self.unit.step(n as usize, &mut FrameSum::default());
+        self.unit.step(n, &mut FrameSum::default());
         self.bytes.push(b'A');
         self.put(n);
         self.totals.cycles += n as u64;
@@ -143,7 +161,7 @@ impl Maker {
     }
 
     pub fn present(&self) -> State {
-        read(&self.unit)
+        self.unit.state()
     }
 
     /// Holds the Rust to document 01's range rules on the way.
@@ -161,7 +179,7 @@ impl Maker {
         self.bytes.extend_from_slice(&v.to_le_bytes());
     }
 
-    /// Both readings of 01 must take the same images.
+    /// Both readings must take the same images.
     fn put_answer(&mut self, bytes: &[u8]) {
         let (number, carried) = answer(bytes);
         let state = bytes.try_into().ok().and_then(state_of);
@@ -178,6 +196,10 @@ pub fn op(reader: &mut Reader) -> Result<Op, String> {
         b'P' => Op::Power,
         b'L' => Op::Load(Box::new(reader.array::<LENGTH>()?)),
         b'W' => Op::Write { address: reader.number()?, byte: reader.byte()? },
+        b'M' => match reader.byte()? {
+            bits @ 0..=63 => Op::Mute { bits },
+            _ => return Err("M is above 63".to_string()),
+        },
         b'R' => Op::Run { n: reader.number()?, made: FrameSum { frames: reader.number()?, sum: reader.number()? } },
         b'A' => Op::Silent { n: reader.number()? },
         b'S' => Op::State { sum: reader.number()? },

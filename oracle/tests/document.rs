@@ -1,4 +1,4 @@
-//! Document 01's rules written down once more, from its text alone, and held against the Rust.
+//! Document 01's rules and 02 (v)'s mutes written down once more, from their text alone, and held against the Rust.
 
 use oracle::digest::{fold, sum_of, FrameSum};
 use oracle::image::{image_of, state_of};
@@ -195,7 +195,8 @@ fn sweep(s: &mut State) {
 
 fn frame(s: &State) -> (i32, i32) {
     let mut sums = [0, 0];
-    for (i, c) in s.channels.iter().enumerate().filter(|(_, c)| c.play == 1) {
+    // "a muted voice adds nothing to a frame"
+    for (i, c) in s.channels.iter().enumerate().filter(|(k, c)| c.play == 1 && bit(s.mutes, *k as u32) == 0) {
         let sample = match i {
             NOISE => 63 * c.position,
             _ if c.bank > 4 => 0,
@@ -219,6 +220,7 @@ fn replay(bytes: &[u8]) {
             Op::Power => s = power_on(),
             Op::Load(image) => s = state_of(&image).unwrap(),
             Op::Write { address, byte } => write(&mut s, address, byte as u32),
+            Op::Mute { bits } => s.mutes = bits.into(),
             Op::Run { n, made } => assert_eq!(run(&mut s, n), made, "op {number}"),
             Op::Silent { n } => {
                 run(&mut s, n);

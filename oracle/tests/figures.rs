@@ -2,13 +2,14 @@
 
 use oracle::constants::*;
 use oracle::digest::{sum_of, Frames};
-use oracle::image::{from_image, image, image_of, state_of, LENGTH};
-use oracle::random::{case, state, Numbers};
+use oracle::image::{first_edition, from_image, image, image_of, state_of, written_back, LENGTH};
+use oracle::random::{case, muted_state, mutes, state, write as any_write, Numbers};
 use oracle::reader::Reader;
 use oracle::replay::replay;
 use oracle::sample::sample;
 use oracle::state::{in_range, power_on, read, write, State, NOISE, SWEPT};
 use oracle::stream::{op, Maker, Op};
+use oracle::unit::Unit;
 use oracle::vsu::channel::Channel;
 use oracle::VSU;
 
@@ -70,6 +71,65 @@ fn p1_p2_p3_mixing() {
     // sums of 7 and 8
     assert_eq!(sound(&about_to_sound(1, 1, 1, 14)), (0, 0));
     assert_eq!(sound(&about_to_sound(1, 1, 1, 16)), (32, 32));
+}
+
+fn muted(s: &State, mutes: u32) -> (i16, i16) {
+    let mut frames = Frames::default();
+    Unit::of(&State { mutes, ..s.clone() }).step(1, &mut frames);
+    frames.0[0]
+}
+
+/// By hand: one voice at 913, six with volumes that tell them apart, and sums of 7 and 8 of which a voice goes.
+#[test]
+fn mutes_by_hand() {
+    let six = about_to_sound(6, 15, 15, 63);
+    assert_eq!(muted(&six, 0), (21_888, 21_888));
+    (0..6).for_each(|k| assert_eq!(muted(&six, 63 ^ 1 << k), (3648, 3648)));
+    assert_eq!(muted(&six, 63), (0, 0));
+    let mut apart = six.clone();
+    for (k, c) in apart.channels.iter_mut().enumerate() {
+        (c.left, c.right) = (if k == 2 { 1 } else { 0 }, if k == 5 { 15 } else { 0 });
+    }
+    // level 15, volume 1: 2 × 63 / 2 = 63, cut to 56
+    assert_eq!(muted(&apart, 0), (224, 3648));
+    assert_eq!(muted(&apart, 0b00_0100), (0, 3648));
+    assert_eq!(muted(&apart, 0b10_0000), (224, 0));
+    assert_eq!(muted(&apart, 0b01_1011), (224, 3648));
+    // 31 of 62, which are cut after adding
+    assert_eq!(muted(&about_to_sound(2, 1, 1, 63), 0b10), (96, 96));
+}
+
+/// Runs of any length, with writes and mutes between them: but for the bits, the states are those of the Rust alone.
+#[test]
+fn mutes_change_nothing_but_frames() {
+    let mut numbers = Numbers::new(9);
+    let (mut heard, mut hushed) = (0, 0);
+    for _ in 0..300 {
+        let start = muted_state(&mut numbers);
+        let (mut unit, mut alone) = (Unit::of(&start), write(&start));
+        for _ in 0..10 {
+            let (address, byte) = any_write(&mut numbers);
+            unit.write(address, byte);
+            alone.set_u8(address as usize, byte);
+            if numbers.one_in(2) {
+                unit.mutes = mutes(&mut numbers);
+            }
+            let n = numbers.pick(&[0, 1, 479, 480, 481, 2_000]) + numbers.below(3);
+            let mut frames = Frames::default();
+            unit.step(n, &mut frames);
+            let unmuted = step(&mut alone, n as usize);
+            assert_eq!(unit.state(), State { mutes: unit.mutes, ..read(&alone) });
+            assert_eq!(frames.0.len(), unmuted.len());
+            if unit.mutes == 0 {
+                assert_eq!(frames.0, unmuted);
+            }
+            for ((left, right), all) in frames.0.into_iter().zip(unmuted) {
+                assert!(left <= all.0 && right <= all.1);
+                (heard, hushed) = if (left, right) == all { (heard + 1, hushed) } else { (heard, hushed + 1) };
+            }
+        }
+    }
+    assert!(heard > 500 && hushed > 500, "{heard} frames as they were, {hushed} less loud");
 }
 
 fn noise(shift: u32, tap: u32, clocks: usize) -> u32 {
@@ -170,7 +230,7 @@ fn run_by_program() {
 fn power_on_state() {
     assert_eq!(read(&VSU::new()), power_on());
     let bytes = image(&VSU::new());
-    assert_eq!(bytes[..16], [1, 0, 16, 0, 0xA4, 1, 0, 0, 5, 0, 6, 0, 208, 0, 0x90, 1]);
+    assert_eq!(bytes[..16], [2, 0, 16, 0, 0xA4, 1, 0, 0, 5, 0, 6, 0, 208, 0, 0x90, 1]);
     // all zero but the noise channel's tap
     for (i, byte) in bytes.iter().enumerate().skip(16) {
         assert_eq!(*byte, if i == 208 + 5 * 32 + 9 { 14 } else { 0 }, "offset {i}");
@@ -181,26 +241,31 @@ fn power_on_state() {
 fn image_round_trip() {
     let mut numbers = Numbers::new(1);
     for _ in 0..2_000 {
-        let s = state(&mut numbers);
+        let s = muted_state(&mut numbers);
         assert!(in_range(&s));
         let bytes = image_of(&s);
         assert_eq!(state_of(&bytes), Some(s.clone()));
         let unit = from_image(&bytes);
-        assert_eq!(read(&unit), s);
-        assert_eq!(image(&unit), bytes);
+        assert_eq!(unit.state(), s);
+        assert_eq!(unit.image(), bytes);
+        assert_eq!(written_back(&bytes), bytes);
+        // edition 1: all but the mutes, and edition 2 again
+        let unit = from_image(&first_edition(bytes));
+        assert_eq!(unit.state(), State { mutes: 0, ..s });
+        assert_eq!(unit.image()[..], written_back(&first_edition(bytes)));
     }
 }
 
 #[test]
 fn a_wrong_image_is_refused() {
     let bytes = image_of(&state(&mut Numbers::new(2)));
-    // header, zero bytes, unused flags, and the noise output against its shift
-    for at in (0..16).chain([219, 238, 239, 409, 418, 419]) {
+    // header, zero bytes, unused flags, the noise output against its shift, and mutes that are none
+    for at in (0..16).chain([219, 238, 239, 409, 419]) {
         let mut wrong = bytes;
         wrong[at] ^= 1;
         assert_eq!(state_of(&wrong), None, "offset {at}");
     }
-    for (at, bits) in [(208, 0x20), (400, 0x80), (378, 1), (396, 1)] {
+    for (at, bits) in [(208, 0x20), (400, 0x80), (378, 1), (396, 1), (418, 0x40), (418, 0x80)] {
         let mut wrong = bytes;
         wrong[at] ^= bits;
         assert_eq!(state_of(&wrong), None, "offset {at}");
@@ -240,7 +305,7 @@ fn sum_sees_every_field() {
             Some(19 | 21 | 22 | 23 | 27) => true, // upper bytes of numbers below 2^24 or 2^8
             Some(28 | 29) => at < 368,
             Some(_) => false,
-            None => matches!(at, 407 | 409 | 418 | 419),
+            None => matches!(at, 407 | 409 | 419),
         };
         assert!(zero, "offset {at} was never changed");
     }
@@ -252,9 +317,11 @@ fn replay_finds_a_wrong_answer() {
     let mut maker = Maker::new();
     let mut places = Vec::new();
     maker.load(&state(&mut Numbers::new(4)));
+    maker.mute(0b00_0110);
     let mut answers = |maker: &Maker, back: &[usize]| places.extend(back.iter().map(|b| maker.bytes.len() - b));
+    answers(&maker, &[6, 4, 1]);
     maker.image();
-    answers(&maker, &[420, 404, 42, 1]);
+    answers(&maker, &[420, 404, 42, 2, 1]);
     maker.write(0x404, 0x5A);
     answers(&maker, &[4, 1]);
     maker.run(2_000);
@@ -291,10 +358,14 @@ fn replay_names_what_differs() {
     assert_eq!(said(b"PD\x01\x04E"), "case 1 op 1 D is too long");
     assert_eq!(said(b"PS\x00\x00\x00"), "case 1 op 1 the stream ends before its E");
     assert_eq!(said(b"PX"), "case 1 op 1 is no op");
+    assert_eq!(said(b"PM\x40E"), "case 1 op 1 M is above 63");
+    // edition 1 is written back as edition 2, so that its own image is another one
+    let first = first_edition(image_of(&power_on()));
+    assert_eq!(said(&[b"PI", &first[..], b"E"].concat()), "case 1 op 1 I image offset 0 expected 1 got 2");
 }
 
-/// Which op may come after which: the sum after each write, the sum or the image after each run, and in random cases the
-/// image at the start and after each run.
+/// Which op may come after which: the sum after each write and mute, the sum or the image after each run, and in random cases
+/// the image at the start and after each run.
 fn looked_at(bytes: &[u8], random: bool) {
     let mut reader = Reader::new(bytes);
     let mut before = Op::End;
@@ -302,7 +373,7 @@ fn looked_at(bytes: &[u8], random: bool) {
         let next = op(&mut reader).unwrap();
         let (sum, image) = (matches!(next, Op::State { .. }), matches!(next, Op::Image(_)));
         let fine = match before {
-            Op::Write { .. } => sum,
+            Op::Write { .. } | Op::Mute { .. } => sum,
             Op::Run { .. } | Op::Silent { .. } if !random => sum || image,
             Op::Run { .. } | Op::Silent { .. } => image,
             Op::Power | Op::Load(_) => image || !random,
@@ -331,6 +402,6 @@ fn every_write_and_run_is_looked_at() {
 fn sample_is_small() {
     let made = sample();
     assert_eq!(replay(&made.bytes), Ok(made.totals));
-    assert!(made.bytes.len() < 130_000);
+    assert!(made.bytes.len() < 151_000);
     assert!(made.totals.cycles < 6_000_000);
 }
