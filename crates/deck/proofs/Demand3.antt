@@ -10,7 +10,7 @@ use native.Mathlib.Omega.{arith}
 use borrow.Author.Tests.{le-leb, leb-true, leb-false, le-ltb, ltb-false, eq-eqb, ne-eqb, eqb-true, eqb-false}
 use lib.Dec.{eqb, leb, ltb}
 use lib.IntN.{ℤ}
-use lib.ListN.{drop, length, set, take, take-append-drop, length-append}
+use lib.ListN.{drop, length, take, take-append-drop, length-append}
 use lib.Seq.{drop-at, drop-drop, getD-drop, length-sets, sets, take-at}
 use Rattle.laws.proofs.Cases.{each, ways}
 use Rattle.little.specs.Little.{bytes}
@@ -28,7 +28,7 @@ use Rattle.refusal.specs.Refusal.{fault, _then_}
 use Rattle.refusal.specs.declared.Answer.{Answer}
 use Rattle.refusal.specs.declared.Answer.the-variants.{Accepted, Refused}
 use Rattle.refusal.specs.declared.Refusal.{Refusal}
-use Rattle.refusal.specs.declared.Refusal.the-variants.{Room, Place, MarkNumber, MarkUnset, MarksFull, State}
+use Rattle.refusal.specs.declared.Refusal.the-variants.{Room, Place, MarkNumber, MarkUnset, MarksFull}
 use Rattle.refusal.proofs.RefusalLaws.{passed, was-sound}
 use Rattle.vsu.specs.Core.{allAtMost, framesDue, inRange, powerOn, sides, unitAnswer, withMutes}
 use Rattle.vsu.specs.declared.core.Frame.{Frame}

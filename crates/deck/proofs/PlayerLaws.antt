@@ -16,7 +16,6 @@ use Rattle.log.specs.Log.{dueBefore, edition1, logAnswer}
 use Rattle.marks.specs.Marks.{isSet}
 use Rattle.refusal.proofs.RefusalLaws.{both-on, passed, was-sound}
 use Rattle.refusal.specs.Refusal.{answerNumber}
-use Rattle.refusal.specs.declared.Answer.{Answer}
 use Rattle.refusal.specs.declared.Answer.the-variants.{Accepted}
 use Rattle.refusal.specs.declared.Refusal.{Refusal}
 use Rattle.refusal.specs.declared.Refusal.the-variants.{State, Room, BeyondEnd, Place, MarkNumber, MarkUnset}

@@ -75,6 +75,11 @@ sweepFifth m vs = set vs 4 (stepSweep m (voiceAt 4 vs))
 unfoldable pub voicesAfter : List ℤ → List Voice → List Voice
 voicesAfter m vs = sweepFifth m (map stepEnvelope (map stepFrequency (map stepAutoStop vs)))
 
+-- the same n times
+unfoldable pub voicesAfterAll : List ℤ → ℕ → List Voice → List Voice
+voicesAfterAll m zero vs = vs
+voicesAfterAll m (suc n) vs = voicesAfter m (voicesAfterAll m n vs)
+
 -- The frame.
 
 abbrev pub total : List ℕ → ℕ
@@ -90,11 +95,6 @@ heardRight waves v = heard waves (v .channel .right) v
 -- "Add the playing voices"
 unfoldable pub sumsOf : List ℕ → List Voice → Sums
 sumsOf waves vs = record { left = total (map (heardLeft waves) vs); right = total (map (heardRight waves) vs) }
-
--- n cycles of the voices: what the code's inner contract goes by
-unfoldable pub voicesAfterAll : List ℤ → ℕ → List Voice → List Voice
-voicesAfterAll m zero vs = vs
-voicesAfterAll m (suc n) vs = voicesAfter m (voicesAfterAll m n vs)
 
 -- Mutes: "six mute bits, bit k for channel k; a muted voice adds nothing to a frame".
 

@@ -5,14 +5,13 @@ use mathlib.Core.Bool.{Bool, true, false, cond}
 use mathlib.Core.List.{List, [], _∷_}
 use Rattle.common.specs.Bits.{bit}
 use Rattle.six.proofs.CoreLaws.{none-muted, sums-unmuted}
-use Rattle.six.specs.Core.{anyPlays, plays, silenced, sumsOf, unmuted, voiceAt}
+use Rattle.six.specs.Core.{anyPlays, plays, silenced, unmuted, voiceAt}
 use Rattle.six.specs.declared.core.Sums.{Sums}
 use Rattle.voice.specs.declared.channel_enum.Voice.{Voice}
 use Rattle.vsu.specs.Core.{cycle, decodeOf, frameOf, frameSide, inRange, made, makesFrame, run, says, withMutes, write, writeTo}
 use Rattle.vsu.specs.declared.core.Frame.{Frame}
 use Rattle.vsu.specs.declared.core.Register.{Register}
 use Rattle.vsu.specs.declared.core.Register.the-variants as registers
-use Rattle.vsu.specs.declared.core.Said.{Said}
 use Rattle.vsu.specs.declared.core.Vsu.{Vsu}
 use Rattle.vsu.proofs.RangeLaws.{range-facts, range-test}
 

@@ -1,25 +1,23 @@
 -- A state in range stays in range, and its voices' sums are small: what the runs need of the range rules, and the layers above.
 use Prim.Native.Nat.{ℕ, zero, suc, _+_, _*_, _/_, _%_, _<_, _≤_}
 use mathlib.Core.Path.{_≡_, refl, sym, ap, subst, _∙_}
-use mathlib.Core.Bool.{Bool, true, false, cond, _&&_}
+use mathlib.Core.Bool.{Bool, true, _&&_}
 use mathlib.Core.List.{List, [], _∷_, map, map-id}
-use mathlib.Core.Logic.{_≢_}
 use native.Mathlib.Decide.{ℕ-discrete}
 use native.Mathlib.Nat.{le-trans}
 use native.Mathlib.Omega.{arith}
-use borrow.Author.Needs.{needs}
 use borrow.Author.Tests.{le-leb, leb-true, leb-false, ltb-true, ltb-false, eq-eqb, eqb-true}
 use lib.Dec.{eqb, leb, ltb}
-use lib.IntN.{ℤ, pos, negsuc}
+use lib.IntN.{ℤ, pos}
 use lib.Signed.{mag}
 use lib.ListN.{getD, set, length, length-map, length-set}
 use lib.Seq.{getD-set-same, getD-set-other}
 use Rattle.laws.proofs.Cases.{both, each, ways}
-use Rattle.voice.proofs.ChannelEnumLaws.{Kept, wave-kept, swept-kept, noise-kept, swept-on-keeps, heard-le}
+use Rattle.voice.proofs.ChannelEnumLaws.{wave-kept, swept-kept, noise-kept, swept-on-keeps, heard-le}
 use Rattle.common.specs.Bits.{bit, signed}
 use Rattle.common.specs.Channel.{channelInRange, liveInRange, pitchInRange, envelopeInRange}
 use Rattle.sweep.specs.SweepModulate.{sweepInRange}
-use Rattle.voice.specs.ChannelEnum.{stopVoice, stepAutoStop, stepFrequency, stepEnvelope, stepSweep, voiceWrite, waveInRange, sweptInRange, noiseInRange, waveKindInRange, sweptKindInRange, noiseKindInRange}
+use Rattle.voice.specs.ChannelEnum.{stopVoice, stepAutoStop, stepFrequency, stepEnvelope, voiceWrite, waveInRange, sweptInRange, noiseInRange, waveKindInRange, sweptKindInRange, noiseKindInRange}
 use Rattle.voice.specs.declared.channel_enum.Voice.{Voice}
 use Rattle.six.proofs.CoreLaws.{silenced-left, silenced-right}
 use Rattle.six.specs.Core.{anyPlays, heardLeft, heardRight, plays, silenced, sumsOf, sweepFifth, total, voiceAt, voicesAfter, voicesInRange}

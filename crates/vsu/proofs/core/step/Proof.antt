@@ -1,11 +1,10 @@
 use mir.Val.{toZ, ofZ}
-use mir.Facts.{toZ-ofZ}
 use mir.Syntax.{w16}
 use lib.ListN.{length-set, set}
 use mathlib.Core.Path.{ap₂}
 use lib.IntN.{ℤ}
 use Prim.Native.Nat.{ℕ, _+_, _*_, _^_, _≤_, _<_, _-_}
-use mathlib.Core.Path.{_≡_, refl, sym, ap, _∙_}
+use mathlib.Core.Path.{_≡_, refl, ap, _∙_}
 use borrow.Author.Needs.{needs}
 use native.Mathlib.Omega.{arith}
 use Rattle.vsu.proofs.RangeLaws.{range-facts, run-keeps}
