@@ -48,6 +48,10 @@ module _ (p : Player) (b : List ℕ) where
       let k = placed b (p .cycle) (p .applied) (was-sound (misplaced b (p .cycle) (p .applied)) Place (r .1)) in
       record { log = l .0; ranged = not-false _ (r .0); within = k .0; due = k .1 }
 
+  pub play-stands : (n room : ℕ) → playAnswer p n b room ≡ Accepted → standingAnswer p b ≡ Accepted
+  unfolding playAnswer
+  play-stands n room h = both-on (standingAnswer p b) _ h .0
+
   pub play-passed : (n room : ℕ) → playAnswer p n b room ≡ Accepted → p .cycle + n ≤ lengthIn b
   unfolding playAnswer
   play-passed n room h =

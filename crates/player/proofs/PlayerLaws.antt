@@ -188,8 +188,7 @@ module _ (p : Player) (n : ℕ) (b : List ℕ) (out : List ℤ) where
 
   module _ (a : playAnswer p n b (length out) ≡ Accepted) where
     pub play-stands : standingAnswer p b ≡ Accepted
-    unfolding playAnswer
-    play-stands = order.both-on (standingAnswer p b) _ a .0
+    play-stands = deck.play-stands p b n (length out) a
 
     pub play-within : p .cycle + n ≤ lengthIn b
     play-within = deck.play-passed p b n (length out) a
