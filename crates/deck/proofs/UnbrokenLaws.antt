@@ -291,7 +291,7 @@ write-output (registers.Channel k offset) b u = refl
 write-output registers.Stop b u = ways (Kept u) (bit 0 b) (λ _. refl) (λ _. refl)
 write-output registers.Nothing b u = refl
 
-apply-output : (ws : List Write) (t : ℕ) (u : Vsu) → applyAt ws t u .output ≡ u .output
+pub apply-output : (ws : List Write) (t : ℕ) (u : Vsu) → applyAt ws t u .output ≡ u .output
 unfolding applyAt
 apply-output [] t u = refl
 apply-output (w ∷ ws) t u =

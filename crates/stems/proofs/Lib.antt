@@ -1,1 +1,4 @@
 pub mod StemsLaws
+pub mod FrameLaws
+pub mod MixLaws
+pub mod InRun

@@ -1,12 +1,11 @@
 -- What the code does, by the player's contracts: a mute and a play of each of the seven, all answered alike.
 use Prim.Native.Nat.{ℕ, _*_, _/_, _≤_, min}
-use mathlib.Core.Path.{_≡_, refl, sym, ap, ap₂, _∙_}
+use mathlib.Core.Path.{_≡_, refl, sym, ap, _∙_}
 use mathlib.Core.Bool.{Bool, true, false, _&&_}
 use mathlib.Core.List.{List, [], _∷_, _++_, append-assoc}
 use native.Mathlib.Nat.{le-trans, min-le-left, min-le-right}
 use native.Mathlib.Omega.{arith}
 use borrow.Author.Tests.{le-leb, le-ltb, leb-false, leb-true, lt-leb}
-use lib.Dec.{leb}
 use lib.IntN.{ℤ}
 use lib.ListN.{drop, length, take, take-append-drop}
 use lib.Seq.{drop-append-le, length-take-le}
@@ -104,14 +103,14 @@ module _ (n : ℕ) (u : Vsu) where
         rw (fits-both (length mix) (min (length one) (min (length two) (min (length three) (min (length four) (min (length five) (length six)))))), fits-both (length one) (min (length two) (min (length three) (min (length four) (min (length five) (length six))))), fits-both (length two) (min (length three) (min (length four) (min (length five) (length six)))), fits-both (length three) (min (length four) (min (length five) (length six))), fits-both (length four) (min (length five) (length six)), fits-both (length five) (length six), last (fitsIn n u (length six)))
 
 module _ (p : Player) (n : ℕ) (b : List ℕ) (one two three four five six mix : List ℤ) where
-  abbrev all : Buffers
+  abbrev pub all : Buffers
   all = lent one two three four five six mix
 
-  abbrev least : ℕ
+  abbrev pub least : ℕ
   least = shortestOf (length one) (length two) (length three) (length four) (length five) (length six) (length mix)
 
   -- so the seven plays are answered as the call is to be
-  answered : playAnswer p n b least ≡ bounceAnswer p n b all
+  pub answered : playAnswer p n b least ≡ bounceAnswer p n b all
   unfolding playAnswer bounceAnswer
   answered = rw (fits-all n (p .unit) one two three four five six mix)
 

@@ -5,7 +5,7 @@ use mathlib.Core.Path.{_≡_}
 use mathlib.Core.Bool.{Bool, true, not, _&&_}
 use mathlib.Core.List.{List, [], _∷_, _++_}
 use lib.Dec.{ltb}
-use lib.IntN.{ℤ, pos, _+ℤ_}
+use lib.IntN.{ℤ, pos, _+ℤ_, _-ℤ_}
 use lib.ListN.{drop, getD, length}
 use Rattle.deck.specs.Player.{lengthIn, standingAnswer, writesIn}
 use Rattle.deck.specs.Unbroken.{framesOn, runOn}
@@ -37,6 +37,10 @@ bounceAnswer p n b o =
     standingAnswer p b
     then fault (ltb (lengthIn b) (p .cycle + n)) BeyondEnd
     then fault (not (allFit n (p .unit) (o .mix ∷ o .stems))) Room
+
+-- the length of the shortest
+abbrev pub shortestOf : ℕ → ℕ → ℕ → ℕ → ℕ → ℕ → ℕ → ℕ
+shortestOf one two three four five six mix = min mix (min one (min two (min three (min four (min five six)))))
 
 -- The renderings.
 
@@ -70,12 +74,26 @@ bounceBy (Refused why) p n b o = record { bounced = record { player = p; frames 
 abbrev pub bounceOf : Player → ℕ → List ℕ → Buffers → BounceGives
 bounceOf p n b o = bounceBy (bounceAnswer p n b o) p n b o
 
--- The remainder.
+-- The remainder, "on each side of each frame".
+
+-- "left first": where a side of frame i stands in a buffer
+
+pub data Side : Type 0 where
+  left : Side
+  right : Side
+
+abbrev pub placeOf : Side → ℕ → ℕ
+placeOf left i = i * 2
+placeOf right i = i * 2 + 1
 
 -- what the stems have at one place, added up
 unfoldable pub addedAt : ℕ → List (List ℤ) → ℤ
 addedAt i [] = pos 0
 addedAt i (s ∷ ss) = getD s i (pos 0) +ℤ addedAt i ss
+
+-- "mix less the sum of stems"
+abbrev pub lessStems : ℕ → Buffers → ℤ
+lessStems i o = getD (o .mix) i (pos 0) -ℤ addedAt i (o .stems)
 
 -- "a multiple of 32 from 0 to 160"
 pub record Remains (z : ℤ) : Type 0 where
@@ -96,6 +114,3 @@ framesBy (Refused why) p n = 0
 unfoldable pub renderedBy : Answer → Player → ℕ → List ℕ → ℕ → List ℤ → List ℤ
 renderedBy Accepted p n b mutes out = rendered p n b mutes out
 renderedBy (Refused why) p n b mutes out = out
-
-abbrev pub shortestOf : ℕ → ℕ → ℕ → ℕ → ℕ → ℕ → ℕ → ℕ
-shortestOf one two three four five six mix = min mix (min one (min two (min three (min four (min five six)))))
