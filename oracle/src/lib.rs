@@ -7,6 +7,7 @@ extern crate savefile_derive;
 include!(concat!(env!("OUT_DIR"), "/modules.rs"));
 
 pub mod bench;
+pub mod chords;
 pub mod console;
 pub mod digest;
 pub mod exchange;
@@ -35,6 +36,8 @@ pub mod scenes;
 pub mod scripts;
 pub mod sorts;
 pub mod state;
+pub mod stems;
+pub mod stemslog;
 pub mod stream;
 pub mod tunes;
 pub mod unit;

@@ -3,7 +3,7 @@ use oracle::programs::{Against, Kind};
 use oracle::stream::Maker;
 use oracle::{
     bench, constants, exchange, explain, listing, logcases, logstream, pairlist, random, recorder, replay, sample,
-    wavlog,
+    stems, stemslog, wavlog,
 };
 use std::io::{BufRead, BufWriter, Read, Write};
 use std::mem::take;
@@ -21,13 +21,15 @@ const USAGE: &str = "usage: oracle constants
        oracle lister                          01's listing of the log on standard input
        oracle wav                             a WAV of the log on standard input, with the mutes of a line before it
        oracle heard                           the entries of the log on standard input that were not taken
+       oracle stems                           the mix and the six stems of the log on standard input
        oracle wavlog                          the log of the stored run of crates/wav, to standard output
+       oracle stemslog                        the log of the stored run of crates/bouncer, to standard output
        oracle console FILE                    the console over the log in FILE
        oracle recorder                        the panel recorder over the script on standard input
        oracle exchangepairs                   the stored input of crates/exchange, to standard output
        oracle exchange                        whether each pair of writes on standard input may be exchanged, by trial
-       oracle against list|wav|heard|drive|record|exchange FIRST SEEDS CASES FOUND PROGRAM [WORD..] [-- LISTER [WORD..]]
-                                              holds a program against these six; what differs goes to the folder FOUND
+       oracle against list|wav|heard|drive|record|exchange|stems FIRST SEEDS CASES FOUND PROGRAM [WORD..] [-- LISTER [WORD..]]
+                                              holds a program against these seven; what differs goes to the folder FOUND
                                               with a smaller case, or nowhere where that is -; LISTER lists what a
                                               recorder makes";
 
@@ -52,7 +54,9 @@ fn main() {
             Err(why) => eprint!("{}", listing::refused(why)),
         },
         ["heard"] => put(listing::heard(&read_in()).as_bytes()),
+        ["stems"] => put(stems::stems(&read_in()).as_bytes()),
         ["wavlog"] => put(&wavlog::stored()),
+        ["stemslog"] => put(&stemslog::stored()),
         ["console", file] => console(file),
         ["recorder"] => recorder(),
         ["exchangepairs"] => put(pairlist::stored().as_bytes()),

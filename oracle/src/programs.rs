@@ -1,5 +1,6 @@
 //! Holds a program against the oracle's own answers, on random logs and scripts.
 
+use crate::chords::chord;
 use crate::console::{lines, session};
 use crate::exchange::{wrong, TRIED};
 use crate::listing::{check_sized, check_wav, heard, listing, listing_of, refused, wav, LISTED, OPENED};
@@ -10,7 +11,9 @@ use crate::panels;
 use crate::process::{run, Printed, Way, HUNG};
 use crate::random::Numbers;
 use crate::recorder::{record, Recorded, PROGRAM};
+use crate::run::Stems;
 use crate::scripts::{front, script};
+use crate::stems;
 use crate::tunes;
 use std::collections::BTreeMap;
 use std::fs;
@@ -30,10 +33,12 @@ pub enum Kind {
     Drive,
     Record,
     Exchange,
+    Stems,
 }
 
 impl Kind {
-    pub const ALL: [Kind; 6] = [Kind::List, Kind::Wav, Kind::Heard, Kind::Drive, Kind::Record, Kind::Exchange];
+    pub const ALL: [Kind; 7] =
+        [Kind::List, Kind::Wav, Kind::Heard, Kind::Drive, Kind::Record, Kind::Exchange, Kind::Stems];
 
     /// As the command line has it.
     pub fn word(self) -> &'static str {
@@ -44,6 +49,7 @@ impl Kind {
             Kind::Drive => "drive",
             Kind::Record => "record",
             Kind::Exchange => "exchange",
+            Kind::Stems => "stems",
         }
     }
 }
@@ -66,9 +72,12 @@ pub fn case(kind: Kind, r: &mut Numbers) -> Case {
         Kind::Wav | Kind::Heard => whole(r, OPENED),
         Kind::Drive => tunes::opened(r),
         Kind::Record | Kind::Exchange => Vec::new(),
+        // several voices at once in one of three
+        Kind::Stems if r.one_in(3) => chord(r),
+        Kind::Stems => whole(r, LISTED),
     };
     let script = match kind {
-        Kind::List | Kind::Heard => Vec::new(),
+        Kind::List | Kind::Heard | Kind::Stems => Vec::new(),
         Kind::Wav => front(r, &log),
         Kind::Drive => script(r, &log),
         Kind::Record => panels::script(r),
@@ -110,11 +119,13 @@ pub struct Wanted {
     pub recorded: Option<Recorded>,
     /// of what was recorded, where the lister takes it
     pub listing: Option<String>,
+    /// of a log that is bounced: every frame
+    pub frames: Option<Vec<Stems>>,
 }
 
 pub fn wanted(case: &Case) -> Wanted {
     let checked = match case.kind {
-        Kind::List => check_sized(&case.log, LISTED).map(|(_, cycles)| cycles),
+        Kind::List | Kind::Stems => check_sized(&case.log, LISTED).map(|(_, cycles)| cycles),
         Kind::Wav => check_wav(&input(case)).map(|(_, _, cycles)| cycles),
         _ => check_sized(&case.log, OPENED).map(|(_, cycles)| cycles),
     };
@@ -134,6 +145,13 @@ pub fn wanted(case: &Case) -> Wanted {
         }
         Kind::Record => wanted = wanted_of(record(lines(&case.script), PROGRAM)),
         Kind::Exchange => {}
+        Kind::Stems => match stems::bounce(&case.log) {
+            Ok(bounced) => {
+                wanted.printed.out = stems::listing_of(&bounced).into();
+                wanted.frames = Some(bounced.frames);
+            }
+            Err(why) => wanted.printed.out = refused(why).into(),
+        },
     }
     wanted
 }
@@ -152,6 +170,7 @@ fn wanted_of(recorded: Recorded) -> Wanted {
         cycles: listed.map_or(0, u64::from),
         listing: listed.map(|length| listing_of(recorded.writes.clone(), length)),
         recorded: Some(recorded),
+        frames: None,
     }
 }
 
@@ -159,11 +178,20 @@ fn wanted_of(recorded: Recorded) -> Wanted {
 pub fn different(case: &Case, expected: &Printed, got: &Printed) -> Option<String> {
     let out = match case.kind {
         Kind::Wav | Kind::Record => different_bytes(&expected.out, &got.out),
-        Kind::List | Kind::Heard | Kind::Drive => different_lines(case, &expected.out, &got.out),
+        Kind::List | Kind::Heard | Kind::Drive | Kind::Stems => different_lines(case, &expected.out, &got.out),
         Kind::Exchange => wrong_answers(case, &got.out),
     };
     let err = different_lines(case, &expected.err, &got.err).map(|what| format!("standard error, {what}"));
-    let both: Vec<String> = [out, err].into_iter().flatten().collect();
+    joined([out, err])
+}
+
+/// What can't be in the lines of a bouncer, whatever the oracle's own lines are.
+pub fn unbalanced(wanted: &Wanted, got: &Printed) -> Option<String> {
+    stems::seen(wanted.frames.as_ref()?, &got.out).err()
+}
+
+fn joined(found: [Option<String>; 2]) -> Option<String> {
+    let both: Vec<String> = found.into_iter().flatten().collect();
     (!both.is_empty()).then(|| both.join("\n"))
 }
 
@@ -263,8 +291,8 @@ impl Against {
         if status != 0 {
             return Err(format!("it ended with exit status {status}"));
         }
-        let differs = different(case, &wanted.printed, &got).or_else(|| self.unsound(wanted, &got.out));
-        differs.map_or(Ok(got), Err)
+        let differs = joined([different(case, &wanted.printed, &got), unbalanced(wanted, &got)]);
+        differs.or_else(|| self.unsound(wanted, &got.out)).map_or(Ok(got), Err)
     }
 
     /// A log that was recorded, read as 01 has it, and listed.
@@ -284,7 +312,7 @@ impl Against {
 
     fn run(&self, case: &Case, wanted: &Wanted) -> Result<(Printed, i32), String> {
         match case.kind {
-            Kind::List | Kind::Wav | Kind::Heard => run(&self.program, &input(case), case.way),
+            Kind::List | Kind::Wav | Kind::Heard | Kind::Stems => run(&self.program, &input(case), case.way),
             Kind::Exchange => run(&self.program, &case.script, case.way),
             Kind::Drive => {
                 let file = self.room.join("log");
@@ -398,6 +426,8 @@ pub struct Totals {
     pub may: u64,
     pub may_not: [u64; 3],
     pub states: u64,
+    /// what a bouncer's lines came to
+    pub seen: stems::Seen,
     /// the refused logs by their line, and a program's answers by their first word; refusals by their number
     pub answers: BTreeMap<String, u64>,
 }
@@ -418,6 +448,7 @@ impl Totals {
             may: 0,
             may_not: [0; 3],
             states: 0,
+            seen: stems::Seen::default(),
             answers: BTreeMap::new(),
         }
     }
@@ -436,7 +467,7 @@ impl Totals {
                 self.lines += out.lines().count() as u64;
                 out.lines().for_each(|line| self.add_answer(line));
             }
-            Kind::List | Kind::Heard | Kind::Drive => {
+            Kind::List | Kind::Heard | Kind::Drive | Kind::Stems => {
                 self.lines += out.lines().count() as u64;
                 out.lines().filter_map(sorts).for_each(|sorts| (0..3).for_each(|i| self.sorts[i] += sorts[i]));
                 if !wanted.accepted {
@@ -444,6 +475,8 @@ impl Totals {
                 } else if self.kind == Kind::Drive {
                     out.lines().skip(1).for_each(|line| self.count("", line));
                 }
+                let seen = wanted.frames.as_ref().and_then(|frames| stems::seen(frames, out.as_bytes()).ok());
+                self.seen.join(seen.unwrap_or_default());
             }
         }
     }
@@ -505,14 +538,18 @@ impl std::fmt::Display for Totals {
                 write!(f, "{seeds} seeds {cases} scripts ({finished} finished, {refused} not) ")?;
                 write!(f, "{lines} lines {adds} adds {listings} listings {bytes} bytes {cycles} cycles")?
             }
-            Kind::List | Kind::Wav | Kind::Heard | Kind::Drive => {
+            Kind::List | Kind::Wav | Kind::Heard | Kind::Drive | Kind::Stems => {
                 write!(f, "{seeds} seeds {cases} logs ({} accepted, {refused} refused) ", cases - refused)?;
-                // a WAV has none
-                if *kind != Kind::Wav {
-                    let [taken, held, none] = sorts;
-                    write!(f, "{lines} lines {taken} taken {held} held {none} none ")?;
+                let [taken, held, none] = sorts;
+                match kind {
+                    Kind::Wav => {}
+                    Kind::Stems => write!(f, "{lines} lines ")?,
+                    _ => write!(f, "{lines} lines {taken} taken {held} held {none} none ")?,
                 }
-                write!(f, "{bytes} bytes {cycles} cycles")?
+                write!(f, "{bytes} bytes {cycles} cycles")?;
+                if *kind == Kind::Stems {
+                    write!(f, " {}", self.seen)?
+                }
             }
         }
         let answers: Vec<String> = answers.iter().map(|(answer, times)| format!("{answer}: {times}")).collect();

@@ -1,10 +1,10 @@
 //! One unbroken run of a log from power-on, on the given Rust: what document 01 means by the state at a cycle and by the
-//! frames of a span, and 02 (iii) by the sort of an entry. All are asked for by their cycles alone, the frames with the present
-//! mutes, so nothing that a player did before can be heard in them. The run itself is unmuted.
+//! frames of a span, 02 (iii) by the sort of an entry and 02 (vi) by the stems. All are asked for by their cycles alone, the frames
+//! with the present mutes, so nothing that a player did before can be heard in them. The run itself is unmuted.
 
 use crate::digest::Frames;
 use crate::log::Write;
-use crate::sorts::{sort, Counts, Sort};
+use crate::sorts::{playing, sort, Counts, Sort};
 use crate::state::{read, State};
 use crate::unit::copy;
 use crate::vsu::core::VSU;
@@ -12,6 +12,9 @@ use crate::vsu::traits::AudioFrame;
 
 /// The run is kept at every so many cycles, to be gone on from there.
 const EVERY: u32 = 8_192;
+
+/// The mutes with which one channel alone is heard, 0 to 5.
+const ALONE: [u32; 6] = [63 - 1, 63 - 2, 63 - 4, 63 - 8, 63 - 16, 63 - 32];
 
 pub struct Run {
     writes: Vec<Write>,
@@ -25,6 +28,15 @@ pub struct Run {
     sorts: Vec<Sort>,
     /// what `at` answered last, and for which cycle
     asked: (u32, u32, State),
+}
+
+/// What one cycle makes: the frame with nothing muted, the frame with each channel heard alone, and which channels play then.
+#[derive(Clone, Debug, PartialEq)]
+pub struct Stems {
+    pub made: u32,
+    pub mix: AudioFrame,
+    pub stems: [AudioFrame; 6],
+    pub plays: [bool; 6],
 }
 
 /// The unit after so many cycles, and how many writes it was given.
@@ -60,24 +72,31 @@ impl Run {
     /// The frames that the cycles `from + 1` to `to` make with these mutes, each with its cycle.
     pub fn frames(&mut self, from: u32, to: u32, mutes: u32) -> Vec<(u32, AudioFrame)> {
         self.reach(to);
-        let frames = self.frames.iter().filter(|(made, _)| from < *made && *made <= to).copied().collect();
+        let frames: Vec<_> = self.frames.iter().filter(|(made, _)| from < *made && *made <= to).copied().collect();
         if mutes == 0 {
             return frames;
         }
-        self.made_again(frames, mutes)
+        self.made_again(&frames, |point| point.frame(mutes))
     }
 
-    /// The cycle that made a frame is run once more on a copy, muted for that cycle alone, after the writes due there: they may be
-    /// of volumes.
-    fn made_again(&self, mut frames: Vec<(u32, AudioFrame)>, mutes: u32) -> Vec<(u32, AudioFrame)> {
-        let Some((first, _)) = frames.first() else { return frames };
-        let mut point = self.kept_before(first - 1);
-        for (made, frame) in &mut frames {
+    /// The same frames with nothing muted, each with its six stems. One pass makes them all.
+    pub fn stems(&mut self, from: u32, to: u32) -> Vec<Stems> {
+        let mixes = self.frames(from, to, 0);
+        let stems = self.made_again(&mixes, |point| (ALONE.map(|mutes| point.frame(mutes)), point.play_next()));
+        let both = mixes.into_iter().zip(stems);
+        both.map(|((made, mix), (_, (stems, plays)))| Stems { made, mix, stems, plays }).collect()
+    }
+
+    /// Goes to the cycle that made each of the frames, after the writes due there: they may be of volumes.
+    fn made_again<T>(&self, frames: &[(u32, AudioFrame)], make: impl Fn(&Point) -> T) -> Vec<(u32, T)> {
+        let Some((first, _)) = frames.first() else { return Vec::new() };
+        let (mut point, mut list) = (self.kept_before(first - 1), Vec::new());
+        for (made, _) in frames {
             point.run_to(*made - 1, &self.writes);
             point.write_due(&self.writes, |_, _| {});
-            *frame = point.muted(mutes).run_cycle().expect("the cycle that made a frame makes one again");
+            list.push((*made, make(&point)));
         }
-        frames
+        list
     }
 
     /// The entries due at `from` up to but not at `to`, each with its index and its sort.
@@ -132,6 +151,18 @@ impl Point {
         while self.cycle < cycle {
             self.step(writes, |_, _| {});
         }
+    }
+
+    /// The frame that the next cycle makes, run on a copy that is muted for that cycle alone.
+    fn frame(&self, mutes: u32) -> AudioFrame {
+        self.muted(mutes).run_cycle().expect("the cycle that made a frame makes one again")
+    }
+
+    /// What plays when the next cycle makes a frame: a channel may stop in that very cycle.
+    fn play_next(&self) -> [bool; 6] {
+        let mut next = self.muted(0);
+        next.run_cycle();
+        playing(&next.unit)
     }
 
     /// A copy.

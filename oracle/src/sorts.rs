@@ -35,7 +35,7 @@ fn held_if(plays: bool) -> Sort {
     }
 }
 
-fn playing(unit: &VSU) -> [bool; 6] {
+pub fn playing(unit: &VSU) -> [bool; 6] {
     read(unit).channels.map(|channel| channel.play == 1)
 }
 
