@@ -17,13 +17,13 @@ use Rattle.vsu.proofs.RangeLaws.{range-facts}
 use Rattle.vsu.specs.Core.{sides, withMutes}
 use Rattle.vsu.specs.declared.core.Frame.{Frame}
 use Rattle.vsu.specs.declared.core.Vsu.{Vsu}
-use Rattle.stems.specs.Stems.{allBut, bounceAnswer, bounceBy, bounceOf, lent, rendered}
+use Rattle.stems.specs.Stems.{allBut, bounceAnswer, bounceBy, bounceOf, lent, rendered, shortestOf}
 use Rattle.stems.proofs.MixLaws.{stem-at}
-use Rattle.stems.proofs.StemsLaws.{answered, least}
+use Rattle.stems.proofs.StemsLaws.{answered}
 
 module _ (b : List ℕ) (cycles size : ℕ) (d : Deck) (m : Named) (r : InRun b (writesIn b) cycles size d m) (n : ℕ) (one two three four five six mix : List ℤ) where
   -- the answer is that of a play with a buffer as long as the shortest
-  pub answers : (out : List ℤ) → length out ≡ least (d .player) n b one two three four five six mix → bounceAnswer (d .player) n b (lent one two three four five six mix) ≡ answerAt (writesIn b) cycles size (play n out) m
+  pub answers : (out : List ℤ) → length out ≡ shortestOf (length one) (length two) (length three) (length four) (length five) (length six) (length mix) → bounceAnswer (d .player) n b (lent one two three four five six mix) ≡ answerAt (writesIn b) cycles size (play n out) m
   unfolding answerOf
   answers out e =
       sym (answered (d .player) n b one two three four five six mix)

@@ -57,7 +57,7 @@ unfolding quotients
 cut-each [] = refl
 cut-each (x ∷ xs) = ap (λ (k : ℤ). frameSide x +ℤ k) (cut-each xs) ∙ pos-+ℤ-pos (x / 8 * 8 * 4) (quotients xs * 32) ∙ ap pos (omega arith)
 
--- six of them are cut by less than 48 more
+-- the remainders of six come to 42 at most, which has five eights
 cut-after : (xs : List ℕ) → length xs ≡ 6 → Remains (frameSide (total xs) -ℤ cutEach xs)
 cut-after xs six =
     let q : ℕ = quotients xs in
@@ -239,13 +239,13 @@ module _ (p : Player) (n : ℕ) (b : List ℕ) (small : allAtMost 255 b ≡ true
     mix-is =
         side-of p n b 0 mix below i l s ∙ ap frameSide (mix-of (heardOn s waves) (heard-none s waves) these (voices i))
 
-    -- "a stem of a voice that does not play is silence"
+    -- the stem of a voice that does not play is silence
     pub silence : plays (voiceAt k these) ≡ false → getD (getD (bounced .stems) k []) (placeOf s i) (pos 0) ≡ pos 0
     silence h =
         of-accepted (λ (o : Buffers). getD (getD (o .stems) k []) (placeOf s i) (pos 0) ≡ pos 0)
         (stem-is ∙ ap frameSide (heard-none s waves (voiceAt k these) h))
 
-    -- "where one voice alone plays its stem is the mix"
+    -- where one voice alone plays its stem is the mix
     pub alone : ((j : ℕ) → (j ≡ k → ⊥) → plays (voiceAt j these) ≡ false) → getD (getD (bounced .stems) k []) (placeOf s i) (pos 0) ≡ getD (bounced .mix) (placeOf s i) (pos 0)
     alone h =
         of-accepted (λ (o : Buffers). getD (getD (o .stems) k []) (placeOf s i) (pos 0) ≡ getD (o .mix) (placeOf s i) (pos 0))

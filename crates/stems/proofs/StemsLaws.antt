@@ -51,9 +51,6 @@ module _ (p : Player) (n : ℕ) (b : List ℕ) (mutes : ℕ) (m : mutes ≤ 63) 
 
   module _ (room : ℕ) (out : List ℤ) (l : room ≤ length out) where
     -- what the play gives of the front that it is lent
-    abbrev front : PlayGives
-    front = playOf (muteOf p mutes .player) n b (take room out)
-
     abbrev Gives : Answer → PlayGives → Type 0
     Gives a g = (_≡_ {A = Rendered} (record { frames = g .played .frames; answer = g .played .answer }) (record { frames = framesBy a p n; answer = a })) × (g .out ++ drop room out ≡ renderedBy a p n b mutes out)
 
@@ -103,14 +100,14 @@ module _ (n : ℕ) (u : Vsu) where
         rw (fits-both (length mix) (min (length one) (min (length two) (min (length three) (min (length four) (min (length five) (length six)))))), fits-both (length one) (min (length two) (min (length three) (min (length four) (min (length five) (length six))))), fits-both (length two) (min (length three) (min (length four) (min (length five) (length six)))), fits-both (length three) (min (length four) (min (length five) (length six))), fits-both (length four) (min (length five) (length six)), fits-both (length five) (length six), last (fitsIn n u (length six)))
 
 module _ (p : Player) (n : ℕ) (b : List ℕ) (one two three four five six mix : List ℤ) where
-  abbrev pub all : Buffers
+  abbrev all : Buffers
   all = lent one two three four five six mix
 
-  abbrev pub least : ℕ
+  abbrev least : ℕ
   least = shortestOf (length one) (length two) (length three) (length four) (length five) (length six) (length mix)
 
   -- so the seven plays are answered as the call is to be
-  pub answered : playAnswer p n b least ≡ bounceAnswer p n b all
+  pub answered : playAnswer p n b (shortestOf (length one) (length two) (length three) (length four) (length five) (length six) (length mix)) ≡ bounceAnswer p n b (lent one two three four five six mix)
   unfolding playAnswer bounceAnswer
   answered = rw (fits-all n (p .unit) one two three four five six mix)
 
