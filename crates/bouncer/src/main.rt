@@ -5,6 +5,7 @@ mod spans;
 use libc::STDIN_FILENO;
 use log::Checked;
 use refusal::Refusal;
+use report::print;
 
 fn list(log: &[u8]) -> bool {
     let c = log::check_log(log);
@@ -28,6 +29,6 @@ fn listed() -> bool {
 
 fn main() {
     if !listed() {
-        output::unwritten();
+        print::unwritten(b"bouncer");
     }
 }

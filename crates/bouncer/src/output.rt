@@ -1,5 +1,4 @@
-// The lines, and what is said where they can't be written.
-use libc::STDERR_FILENO;
+// The lines.
 use libc::STDOUT_FILENO;
 use refusal::Refusal;
 use report::sum;
@@ -53,15 +52,4 @@ pub(crate) fn refused(why: Refusal) -> bool {
     let a = text::refused(&mut text, 0, why);
     let end = text::words(&mut text, a, b"\n");
     put(&text, end)
-}
-
-// On a terminal the line may hold how much is done, and the message goes over it.
-pub(crate) fn unwritten() {
-    if libc::isatty(STDERR_FILENO) == 1 {
-        io::write_all(STDERR_FILENO, b"\r");
-    }
-    io::write_all(
-        STDERR_FILENO,
-        b"bouncer: standard output can't be written\n",
-    );
 }

@@ -79,17 +79,17 @@ fn lines(
     next
 }
 
-// Not where the lines go to a terminal: the two would mix. A log of one span is done before there is anything to tell.
-fn shown(last: u32, done: u32, all: u32) -> u32 {
-    if (all <= SPAN) | (libc::isatty(STDOUT_FILENO) == 1) {
-        return last;
+// The hundredths, where anybody is told.
+fn shown(last: u32, done: u32, all: u32, aside: bool) -> u32 {
+    if aside {
+        return progress::show(last, done, all);
     }
-    progress::show(last, done, all)
+    last
 }
 
 // n of a log's cycles, at most a span, up to a cycle that is not beyond its end: so neither call is refused. A bounce hands the player
 // back as given, and the seek moves it on. A line has at most 104 bytes, so there is room for a line of each frame.
-fn span(l: Listing, n: u32, to: u32, log: &[u8], cycles: u32) -> Listing {
+fn span(l: Listing, n: u32, to: u32, log: &[u8], cycles: u32, aside: bool) -> Listing {
     let mut one = [0i16; 512];
     let mut two = [0i16; 512];
     let mut three = [0i16; 512];
@@ -128,12 +128,14 @@ fn span(l: Listing, n: u32, to: u32, log: &[u8], cycles: u32) -> Listing {
     Listing {
         player: q,
         written: output::put(&out, at),
-        told: shown(l.told, to, cycles),
+        told: shown(l.told, to, cycles, aside),
     }
 }
 
-// Whether all frames are listed. Nothing is told before the first span is done: hence the 100 at first.
+// Whether all frames are listed. Progress is told aside, not where the lines go to a terminal: the two would mix; and not of a log of one
+// span, which is done before there is anything to tell.
 pub(crate) fn list(log: &[u8], cycles: u32) -> bool {
+    let aside = (cycles > SPAN) & (libc::isatty(STDOUT_FILENO) != 1);
     let t = player::open(log);
     let p = t.player;
     let mut l = Listing {
@@ -144,11 +146,11 @@ pub(crate) fn list(log: &[u8], cycles: u32) -> bool {
     let mut at: u32 = 0;
     while cycles - at > SPAN {
         at += SPAN;
-        l = span(l, SPAN, at, log, cycles);
+        l = span(l, SPAN, at, log, cycles, aside);
         if !l.written {
             return false;
         }
     }
-    let last = span(l, cycles - at, cycles, log, cycles);
+    let last = span(l, cycles - at, cycles, log, cycles, aside);
     last.written
 }

@@ -4,13 +4,13 @@ mod sorts;
 
 use crate::sorts::Sorts;
 use deck::Player;
-use libc::STDERR_FILENO;
 use libc::STDIN_FILENO;
 use libc::STDOUT_FILENO;
 use log::Checked;
 use log::Read;
 use log::reader;
 use refusal::Refusal;
+use report::print;
 use report::progress;
 use report::sum;
 use report::text;
@@ -171,16 +171,8 @@ fn listed() -> bool {
     list(&space[..size])
 }
 
-// On a terminal the line may hold how much is done, and the message goes over it.
-fn unwritten() {
-    if libc::isatty(STDERR_FILENO) == 1 {
-        io::write_all(STDERR_FILENO, b"\r");
-    }
-    io::write_all(STDERR_FILENO, b"lister: standard output can't be written\n");
-}
-
 fn main() {
     if !listed() {
-        unwritten();
+        print::unwritten(b"lister");
     }
 }

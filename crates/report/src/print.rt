@@ -1,6 +1,7 @@
-// Lines on standard output.
+// Lines on standard output, and what is said where they can't be written.
 ghost use Prim.Native.Nat.{_≤_};
 ghost use lib.ListN.{length};
+use libc::STDERR_FILENO;
 use libc::STDOUT_FILENO;
 
 // Where the next `#` of a form is, from a place on; the end where there is none.
@@ -30,4 +31,13 @@ pub fn line(form: &[u8], numbers: &[u64]) {
         i += 1;
     }
     io::write_all(STDOUT_FILENO, &form[from..]);
+}
+
+// On a terminal the line may hold how much is done, and the message goes over it. It answers nothing either.
+pub fn unwritten(program: &[u8]) {
+    if libc::isatty(STDERR_FILENO) == 1 {
+        io::write_all(STDERR_FILENO, b"\r");
+    }
+    io::write_all(STDERR_FILENO, program);
+    io::write_all(STDERR_FILENO, b": standard output can't be written\n");
 }

@@ -10,6 +10,7 @@ use lines::words::Number;
 use lines::words::behind;
 use log::Checked;
 use refusal::Refusal;
+use report::print;
 use report::progress;
 use report::text;
 ghost use Prim.Native.Nat.{_≤_};
@@ -96,20 +97,12 @@ fn refused(why: Refusal) {
     front(STDERR_FILENO, &line, b);
 }
 
-// On a terminal the line may hold how much is done, and the message goes over it.
-fn unwritten() {
-    if libc::isatty(STDERR_FILENO) == 1 {
-        io::write_all(STDERR_FILENO, b"\r");
-    }
-    io::write_all(STDERR_FILENO, b"wav: standard output can't be written\n");
-}
-
 fn convert(log: &[u8], mutes: u32) {
     let c = log::check_log(log);
     match c {
         Checked::Log { count: _, cycles } => {
             if !sound(log, cycles, mutes) {
-                unwritten();
+                print::unwritten(b"wav");
             }
         }
         Checked::Refused(why) => refused(why),

@@ -5,10 +5,13 @@ use Rattle.bouncer.proofs.spans.list.Statement.{statement}
 use Rattle.bouncer.proofs.spans.list.Tie as tie
 
 abbrev Inv-loop : tie.InvT-loop
-Inv-loop log cycles l₀ at₀ l at = at ≤ cycles
+Inv-loop log cycles aside l₀ at₀ l at = at ≤ cycles
 
 abbrev μ-loop : tie.MeasureT-loop
-μ-loop log cycles l₀ at₀ l at = cycles - at
+μ-loop log cycles aside l₀ at₀ l at = cycles - at
+
+isatty-requires : tie.Need-isatty-requires Inv-loop μ-loop
+isatty-requires c κs = search needs
 
 open-requires : tie.Need-open-requires Inv-loop μ-loop
 open-requires c κs = search needs
@@ -49,6 +52,7 @@ list-spec =
     (tie.spec
     Inv-loop
     μ-loop
+    isatty-requires
     open-requires
     loop-holds
     sub-loop
