@@ -133,7 +133,7 @@ fn span(l: Listing, n: u32, to: u32, log: &[u8], cycles: u32, aside: bool) -> Li
 }
 
 // Whether all frames are listed. Progress is told aside, not where the lines go to a terminal: the two would mix; and not of a log of one
-// span, which is done before there is anything to tell.
+// span, which is done before there is anything to tell. No first span comes to the 100, so the first is told.
 pub(crate) fn list(log: &[u8], cycles: u32) -> bool {
     let aside = (cycles > SPAN) & (libc::isatty(STDOUT_FILENO) != 1);
     let t = player::open(log);

@@ -13,9 +13,12 @@ use Rattle.deck.proofs.UnbrokenLaws.{apply-output, frames-on-length, run-on-out
 use Rattle.deck.specs.Unbroken.{applyAt, framesOn, runOn}
 use Rattle.log.specs.declared.Write.{Write}
 use Rattle.six.specs.Core.{silenced}
+use Rattle.vsu.proofs.RunLaws.{sides-length}
 use Rattle.vsu.specs.Core.{cycle, frameOf, framesDue, made, makesFrame, sides}
 use Rattle.vsu.specs.declared.core.Frame.{Frame}
 use Rattle.vsu.specs.declared.core.Vsu.{Vsu}
+use Rattle.stems.specs.Stems.{Side, placeOf}
+use Rattle.stems.specs.Stems.Side.{left, right}
 
 -- the frame of a state, with its mutes
 abbrev pub frameIn : Vsu → Frame
@@ -51,17 +54,21 @@ module _ (ws : List Write) (c : ℕ) (u : Vsu) (h : u .output ≤ 479) (d : Fram
           List·getD-append (framesOn ws c u n) _ d i (omega (arith, l, frames-on-length ws c u h n)) ∙ r l
       go false e r = last n i (ltb-false i (framesDue u n) e) g
 
--- a frame's sides stand at twice its number
+-- a side of frame i stands at its place
 
-module _ (z : ℤ) (d : Frame) where
-  pub left-at : (fs : List Frame) (i : ℕ) → i < length fs → getD (sides fs) (i * 2) z ≡ getD fs i d .left
-  unfolding sides
-  left-at [] i l = absurd (omega arith)
-  left-at (f ∷ fs) zero l = refl
-  left-at (f ∷ fs) (suc i) l = let e : suc i * 2 ≡ suc (suc (i * 2)) = omega arith in rw e (left-at fs i (omega arith))
+abbrev pub sideIn : Side → Frame → ℤ
+sideIn left f = f .left
+sideIn right f = f .right
 
-  pub right-at : (fs : List Frame) (i : ℕ) → i < length fs → getD (sides fs) (i * 2 + 1) z ≡ getD fs i d .right
-  unfolding sides
-  right-at [] i l = absurd (omega arith)
-  right-at (f ∷ fs) zero l = refl
-  right-at (f ∷ fs) (suc i) l = let e : suc i * 2 + 1 ≡ suc (suc (i * 2 + 1)) = omega arith in rw e (right-at fs i (omega arith))
+pub side-at : (z : ℤ) (d : Frame) (s : Side) (fs : List Frame) (i : ℕ) → i < length fs → getD (sides fs) (placeOf s i) z ≡ sideIn s (getD fs i d)
+unfolding sides
+side-at z d s [] i l = absurd (omega arith)
+side-at z d left (f ∷ fs) zero l = refl
+side-at z d right (f ∷ fs) zero l = refl
+side-at z d left (f ∷ fs) (suc i) l = let e : suc i * 2 ≡ suc (suc (i * 2)) = omega arith in rw e (side-at z d left fs i (omega arith))
+side-at z d right (f ∷ fs) (suc i) l =
+    let e : suc i * 2 + 1 ≡ suc (suc (i * 2 + 1)) = omega arith in rw e (side-at z d right fs i (omega arith))
+
+pub side-within : (s : Side) (fs : List Frame) (i : ℕ) → i < length fs → placeOf s i < length (sides fs)
+side-within left fs i l = omega (arith, l, sides-length fs)
+side-within right fs i l = omega (arith, l, sides-length fs)

@@ -1,25 +1,22 @@
 -- A bounce among demand 3's calls: where a deck stands in the unbroken run, the seven are that run's frames. The call hands the record
 -- back as given and is lent no mark memory, so the calls after it find the deck as it was.
-use Prim.Native.Nat.{ℕ, _+_, _*_, _<_, _≤_}
+use Prim.Native.Nat.{ℕ, _+_, _*_, _<_}
 use mathlib.Core.Path.{_≡_, sym, ap, ap₂, _∙_}
 use mathlib.Core.List.{List, [], _∷_, _++_}
 use lib.IntN.{ℤ}
 use lib.ListN.{drop, getD, length}
-use Rattle.deck.proofs.PlayerLaws as deck
 use Rattle.deck.proofs.UnbrokenLaws.{frames-on-length, frames-span}
 use Rattle.deck.specs.Calls.{Deck, InRun, Named, answerAt, answerOf, yields}
 use Rattle.deck.specs.Calls.Call.{play}
-use Rattle.deck.specs.Player.{playAnswer, standingAnswer, writesIn}
+use Rattle.deck.specs.Player.{playAnswer, writesIn}
 use Rattle.deck.specs.Unbroken.{framesIn, framesOn}
-use Rattle.refusal.proofs.RefusalLaws.{both-on}
 use Rattle.refusal.specs.declared.Answer.the-variants.{Accepted}
-use Rattle.vsu.proofs.RangeLaws.{range-facts}
 use Rattle.vsu.specs.Core.{sides, withMutes}
 use Rattle.vsu.specs.declared.core.Frame.{Frame}
 use Rattle.vsu.specs.declared.core.Vsu.{Vsu}
 use Rattle.stems.specs.Stems.{allBut, bounceAnswer, bounceBy, bounceOf, lent, rendered, shortestOf}
 use Rattle.stems.proofs.MixLaws.{stem-at}
-use Rattle.stems.proofs.StemsLaws.{answered}
+use Rattle.stems.proofs.StemsLaws.{answered, counter-below}
 
 module _ (b : List ℕ) (cycles size : ℕ) (d : Deck) (m : Named) (r : InRun b (writesIn b) cycles size d m) (n : ℕ) (one two three four five six mix : List ℤ) where
   -- the answer is that of a play with a buffer as long as the shortest
@@ -31,13 +28,6 @@ module _ (b : List ℕ) (cycles size : ℕ) (d : Deck) (m : Named) (r : InRun b 
       ∙ r .answers (play n out)
 
   module _ (accepted : bounceAnswer (d .player) n b (lent one two three four five six mix) ≡ Accepted) where
-    standing : standingAnswer (d .player) b ≡ Accepted
-    unfolding bounceAnswer
-    standing = both-on (standingAnswer (d .player) b) _ accepted .0
-
-    below : d .player .unit .output ≤ 479
-    below = range-facts (d .player .unit) (deck.stands (d .player) b standing .ranged) .output
-
     module _ (mutes : ℕ) where
       span : framesOn (writesIn b) (d .player .cycle) (withMutes (d .player .unit) mutes) n ≡ framesIn (writesIn b) mutes (m .cycle) (m .cycle + n)
       span =
@@ -49,7 +39,7 @@ module _ (b : List ℕ) (cycles size : ℕ) (d : Deck) (m : Named) (r : InRun b 
       unfolding rendered yields
       yielded out =
           ap₂ (λ (fs : List Frame) (k : ℕ). sides fs ++ drop (k * 2) out) span
-          (sym (frames-on-length (writesIn b) (d .player .cycle) (withMutes (d .player .unit) mutes) below n) ∙ ap length span)
+          (sym (frames-on-length (writesIn b) (d .player .cycle) (withMutes (d .player .unit) mutes) (counter-below (d .player) n b (lent one two three four five six mix) accepted) n) ∙ ap length span)
 
     pub stem-yields : (k : ℕ) → k < 6 → getD (bounceOf (d .player) n b (lent one two three four five six mix) .out .stems) k [] ≡ yields (writesIn b) (allBut k) (m .cycle) Accepted n (getD (one ∷ two ∷ three ∷ four ∷ five ∷ six ∷ []) k [])
     unfolding bounceBy

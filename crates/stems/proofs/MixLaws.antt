@@ -8,25 +8,23 @@ use native.Mathlib.Nat.{add-zero, zero-add}
 use native.Mathlib.Omega.{arith}
 use lib.IntN.{ℤ, pos, _+ℤ_, _-ℤ_, pos-+ℤ-pos, +ℤ-negℤ-cancel}
 use lib.ListN.{drop, getD, length, List·getD-append}
-use Rattle.deck.proofs.PlayerLaws as deck
 use Rattle.deck.proofs.UnbrokenLaws.{bytes-of, frames-on-length, run-on-keeps, run-on-mutes}
-use Rattle.deck.specs.Player.{standingAnswer, writesIn}
+use Rattle.deck.specs.Player.{writesIn}
 use Rattle.deck.specs.Unbroken.{framesOn}
 use Rattle.deck.specs.declared.Player.{Player}
 use Rattle.log.specs.Log.{countOf}
-use Rattle.refusal.proofs.RefusalLaws.{both-on}
 use Rattle.refusal.specs.declared.Answer.{Answer}
 use Rattle.refusal.specs.declared.Answer.the-variants.{Accepted}
 use Rattle.six.specs.Core.{offWave, heardLeft, heardRight, plays, silenced, silencedFrom, sumsOf, total, voiceAt}
 use Rattle.voice.specs.ChannelEnum.{heard, stopVoice}
 use Rattle.voice.specs.declared.channel_enum.Voice.{Voice}
 use Rattle.vsu.proofs.RangeLaws.{range-facts}
-use Rattle.vsu.proofs.RunLaws.{sides-length}
-use Rattle.vsu.specs.Core.{allAtMost, frameOf, frameSide, framesDue, inRange, sides, withMutes}
+use Rattle.vsu.specs.Core.{allAtMost, frameOf, frameSide, framesDue, sides, withMutes}
 use Rattle.vsu.specs.declared.core.Frame.{Frame}
 use Rattle.stems.specs.Stems.{Buffers, Side, placeOf, Remains, addedAt, allBut, bounceAnswer, bounceBy, bounceOf, framed, lent, lessStems, rendered, stemsFrom}
 use Rattle.stems.specs.Stems.Side.{left, right}
-use Rattle.stems.proofs.FrameLaws.{frame-at, frameIn, left-at, right-at}
+use Rattle.stems.proofs.FrameLaws.{frame-at, frameIn, side-at, side-within, sideIn}
+use Rattle.stems.proofs.StemsLaws.{bounce-ranged, counter-below}
 
 -- Numbers cut and then added, and added and then cut.
 
@@ -140,6 +138,11 @@ unfolding heard
 heard-none left waves v h = rw h
 heard-none right waves v h = rw h
 
+side-sum : (s : Side) (waves : List ℕ) (vs : List Voice) → sideIn s (frameOf waves vs) ≡ frameSide (total (map (heardOn s waves) vs))
+unfolding frameOf sumsOf
+side-sum left waves vs = refl
+side-sum right waves vs = refl
+
 abbrev silent : Frame
 silent = record { left = pos 0; right = pos 0 }
 
@@ -162,15 +165,12 @@ module _ (p : Player) (n : ℕ) (b : List ℕ) (mutes : ℕ) (out : List ℤ) (h
       ∙ ap frameIn (run-on-mutes mutes (writesIn b) (p .cycle) (p .unit) (480 * suc i - p .unit .output))
 
   side-of : (s : Side) → getD (rendered p n b mutes out) (placeOf s i) (pos 0) ≡ frameSide (total (map (heardOn s (framed p b i .waves)) (silenced mutes (framed p b i .voices))))
-  unfolding rendered fs frameOf sumsOf
-  side-of left =
-      List·getD-append (sides fs) rest (pos 0) (i * 2) (omega (arith, within, sides-length fs))
-      ∙ left-at (pos 0) silent fs i within
-      ∙ ap (λ (f : Frame). f .left) (frame-of silent)
-  side-of right =
-      List·getD-append (sides fs) rest (pos 0) (i * 2 + 1) (omega (arith, within, sides-length fs))
-      ∙ right-at (pos 0) silent fs i within
-      ∙ ap (λ (f : Frame). f .right) (frame-of silent)
+  unfolding rendered fs
+  side-of s =
+      List·getD-append (sides fs) rest (pos 0) (placeOf s i) (side-within s fs i within)
+      ∙ side-at (pos 0) silent s fs i within
+      ∙ ap (sideIn s) (frame-of silent)
+      ∙ side-sum s (framed p b i .waves) (silenced mutes (framed p b i .voices))
 
 -- stem k is rendered with all but channel k muted
 
@@ -191,19 +191,12 @@ module _ (p : Player) (n : ℕ) (b : List ℕ) (small : allAtMost 255 b ≡ true
   abbrev bounced : Buffers
   bounced = bounceOf p n b (lent one two three four five six mix) .out
 
-  standing : standingAnswer p b ≡ Accepted
-  unfolding bounceAnswer
-  standing = both-on (standingAnswer p b) _ accepted .0
-
-  ranged : inRange (p .unit) ≡ true
-  ranged = deck.stands p b standing .ranged
-
   below : p .unit .output ≤ 479
-  below = range-facts (p .unit) ranged .output
+  below = counter-below p n b (lent one two three four five six mix) accepted
 
   voices : (i : ℕ) → length (framed p b i .voices) ≡ 6
   voices i =
-      range-facts (framed p b i) (run-on-keeps (writesIn b) (p .cycle) (p .unit) (480 * suc i - p .unit .output) (bytes-of b small (countOf b) 0) ranged) .voices .six
+      range-facts (framed p b i) (run-on-keeps (writesIn b) (p .cycle) (p .unit) (480 * suc i - p .unit .output) (bytes-of b small (countOf b) 0) (bounce-ranged p n b (lent one two three four five six mix) accepted)) .voices .six
 
   -- what holds of all that an accepted call leaves holds of them
   of-accepted : (P : Buffers → Type 0) → P (bounceBy Accepted p n b (lent one two three four five six mix) .out) → P bounced

@@ -20,6 +20,7 @@ use Rattle.refusal.specs.Refusal.{Tells, fault, _then_}
 use Rattle.refusal.specs.declared.Answer.{Answer}
 use Rattle.refusal.specs.declared.Answer.the-variants.{Accepted, Refused}
 use Rattle.vsu.proofs.MutesLaws.{mutes-keep}
+use Rattle.vsu.proofs.RangeLaws.{range-facts}
 use Rattle.vsu.specs.Core.{fitsIn, framesDue, inRange, sides, unitAnswer, withMutes}
 use Rattle.vsu.specs.declared.core.Vsu.{Vsu}
 use Rattle.stems.specs.Stems.{Buffers, allFit, bounceAnswer, bounceBy, bounceOf, framesBy, lent, rendered, renderedBy, shortestOf, stemsFrom}
@@ -131,6 +132,16 @@ module _ (p : Player) (n : ℕ) (b : List ℕ) (one two three four five six mix 
         let a : playAnswer p n b room ≡ bounceAnswer p n b all = rw e answered in
         let m = by-one (playAnswer p n b room) f g h i j k l x r in
         (rw a at (m .0), rw a at (m .1), order.tells (ap (λ (r : Bounced). r .answer) r ∙ ap (λ (x : Rendered). x .answer) x ∙ a))
+
+-- the record of an accepted call is in range
+
+module _ (p : Player) (n : ℕ) (b : List ℕ) (o : Buffers) (a : bounceAnswer p n b o ≡ Accepted) where
+  pub bounce-ranged : inRange (p .unit) ≡ true
+  unfolding bounceAnswer
+  bounce-ranged = deck.stands p b (order.both-on (standingAnswer p b) _ a .0) .ranged
+
+  pub counter-below : p .unit .output ≤ 479
+  counter-below = range-facts (p .unit) bounce-ranged .output
 
 -- the shortest is no longer than any
 
