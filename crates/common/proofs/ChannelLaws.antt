@@ -159,29 +159,29 @@ module _ (b : ℕ) (c : Channel) where
 
 -- A channel in range stays in range: its parts as bounds, what each step and each write makes of the bounds, and the same over the tests.
 
-record LiveOk (l : Live) : Type 0 where
-  tick : l .tick ≤ 76804
-  interval : l .interval ≤ 31
-  counter : l .counter ≤ 31
+pub record LiveOk (l : Live) : Type 0 where
+  pub tick : l .tick ≤ 76804
+  pub interval : l .interval ≤ 31
+  pub counter : l .counter ≤ 31
 
-record PitchOk (most : ℕ) (p : Pitch) : Type 0 where
-  tick : p .tick ≤ most
-  frequency : p .frequency ≤ 2047
-  counter : p .counter ≤ 2047
+pub record PitchOk (most : ℕ) (p : Pitch) : Type 0 where
+  pub tick : p .tick ≤ most
+  pub frequency : p .frequency ≤ 2047
+  pub counter : p .counter ≤ 2047
 
-record EnvelopeOk (e : Envelope) : Type 0 where
-  tick : e .tick ≤ 307218
-  interval : e .interval ≤ 7
-  step : e .step ≤ 7
-  level : e .level ≤ 15
-  reload : e .reload ≤ 15
+pub record EnvelopeOk (e : Envelope) : Type 0 where
+  pub tick : e .tick ≤ 307218
+  pub interval : e .interval ≤ 7
+  pub step : e .step ≤ 7
+  pub level : e .level ≤ 15
+  pub reload : e .reload ≤ 15
 
-record ChannelOk (most : ℕ) (c : Channel) : Type 0 where
-  live : LiveOk (c .live)
-  pitch : PitchOk most (c .pitch)
-  envelope : EnvelopeOk (c .envelope)
-  left : c .left ≤ 15
-  right : c .right ≤ 15
+pub record ChannelOk (most : ℕ) (c : Channel) : Type 0 where
+  pub live : LiveOk (c .live)
+  pub pitch : PitchOk most (c .pitch)
+  pub envelope : EnvelopeOk (c .envelope)
+  pub left : c .left ≤ 15
+  pub right : c .right ≤ 15
 
 live-facts : (l : Live) → liveInRange l ≡ true → LiveOk l
 unfolding liveInRange
@@ -255,7 +255,7 @@ envelope-ok {e} k =
 pub envelope-keeps : (e : Envelope) → envelopeInRange e ≡ true → envelopeInRange (envelopeStep e) ≡ true
 envelope-keeps e h = envelope-test (envelope-ok (envelope-facts e h))
 
-channel-facts : (most : ℕ) (c : Channel) → channelInRange most c ≡ true → ChannelOk most c
+pub channel-facts : (most : ℕ) (c : Channel) → channelInRange most c ≡ true → ChannelOk most c
 unfolding channelInRange
 channel-facts most c h =
     each (liveInRange (c .live)) (pitchInRange most (c .pitch) ∷ envelopeInRange (c .envelope) ∷ leb (c .left) 15 ∷ leb (c .right) 15 ∷ []) h

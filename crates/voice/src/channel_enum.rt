@@ -181,7 +181,7 @@ pub fn has_offset(kind: Kind, offset: u32) -> bool
     }
 }
 
-fn cycles_per_frequency_tick(kind: Kind) -> u32
+pub fn cycles_per_frequency_tick(kind: Kind) -> u32
     ensures { λ r. ⌜ r ≡ periodOf kind ⌝ }
 {
     match kind {
@@ -202,7 +202,7 @@ fn cycles_per_frequency_tick(kind: Kind) -> u32
     }
 }
 
-fn frequency(kind: Kind, written: u16) -> u16
+pub fn frequency(kind: Kind, written: u16) -> u16
     ensures { λ r. ⌜ r ≡ frequencyOf written kind ⌝ }
 {
     match kind {
@@ -244,7 +244,7 @@ fn increment_noise(shift: u16, tap: u8) -> Kind
     }
 }
 
-fn increment_sample(kind: Kind) -> Kind
+pub fn increment_sample(kind: Kind) -> Kind
     ensures { λ r. ⌜ r ≡ nextSample kind ⌝ }
 {
     match kind {

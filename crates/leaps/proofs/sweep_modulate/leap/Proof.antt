@@ -1,0 +1,16 @@
+use native.Mathlib.Omega.{arith}
+use Rattle.leaps.proofs.SweepModulateLaws as laws
+use borrow.Author.Needs.{needs}
+use Rattle.leaps.proofs.sweep_modulate.leap.Statement.{statement}
+use Rattle.leaps.proofs.sweep_modulate.leap.Tie as tie
+use Rattle.leaps.proofs.sweep_modulate.leap.Reads as reads
+use Rattle.leaps.proofs.sweep_modulate.leap.Lts as lts
+
+add-t : tie.Need-add-t
+add-t c = search (needs, laws.far-le (c .before .args .s))
+
+returns : tie.Need-returns
+returns c = laws.leap-is _ _
+
+pub leap-spec : {M : Type 1} → statement M
+leap-spec = tie.close (tie.spec add-t returns)
