@@ -1,4 +1,4 @@
-mod DistanceLaws
+pub mod DistanceLaws
 pub mod LiveLaws
 pub mod PitchLaws
 pub mod EnvelopeLaws

@@ -3,7 +3,7 @@ use Prim.Native.Nat.{ℕ, zero, suc, _+_, _^_, _<_, _≤_}
 use mathlib.Core.Path.{_≡_, refl, sym, ap, _∙_}
 use mathlib.Core.Bool.{Bool, true, false, cond, _&&_, true≢false}
 use mathlib.Core.List.{List, [], _∷_, map, map-map}
-use native.Mathlib.Nat.{zero-div}
+use native.Mathlib.Nat.{add-suc, add-zero, zero-div}
 use native.Mathlib.Numerals.{add-one}
 use native.Mathlib.Omega.{arith}
 use borrow.Author.Tests.{eqb-true, ltb-true}
@@ -78,6 +78,12 @@ after-walk m vs p q = q ∙ ap (sweepFifth m) (p ∙ sym (one-map stepEnvelope s
 pub one-cycle-more : (m : List ℤ) (n : ℕ) (vs : List Voice) {ws xs : List Voice} → ws ≡ voicesAfterAll m n vs → xs ≡ voicesAfter m ws → xs ≡ voicesAfterAll m (n + 1) vs
 unfolding voicesAfterAll
 one-cycle-more m n vs p q = rw (add-one n, ← p) q
+
+-- n cycles, then k
+pub cycles-add : (m : List ℤ) (n k : ℕ) (vs : List Voice) → voicesAfterAll m (n + k) vs ≡ voicesAfterAll m k (voicesAfterAll m n vs)
+unfolding voicesAfterAll
+cycles-add m n zero vs = rw add-zero
+cycles-add m n (suc k) vs = rw add-suc (ap (voicesAfter m) (cycles-add m n k vs))
 
 -- mutes
 

@@ -1,2 +1,2 @@
-mod Upto
+pub mod Upto
 pub mod CoreLaws

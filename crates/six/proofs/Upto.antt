@@ -1,4 +1,4 @@
--- A loop that puts each element of a list through f, from the front: what it has after j turns.
+-- A loop that puts each element of a list through f, which goes by the element's number, from the front: what it has after j turns.
 use Prim.Native.Nat.{ℕ, zero, suc, _+_, _≤_, _<_}
 use mathlib.Core.Path.{_≡_, refl, ap, subst, _∙_}
 use mathlib.Core.List.{List, [], _∷_, map}
@@ -7,40 +7,8 @@ use native.Mathlib.Numerals.{add-one}
 use native.Mathlib.Omega.{arith}
 use lib.ListN.{length, getD, set}
 
-module _ {A : Type 0} (f : A → A) where
-  -- the first j elements through f
-  unfoldable pub upTo : ℕ → List A → List A
-  upTo zero l = l
-  upTo (suc j) [] = []
-  upTo (suc j) (x ∷ l) = f x ∷ upTo j l
-
-  pub upTo-none : (l : List A) → l ≡ upTo 0 l
-  unfolding upTo
-  upTo-none l = refl
-
-  step : (j : ℕ) (l : List A) (d : A) → j < length l → set (upTo j l) j (f (getD (upTo j l) j d)) ≡ upTo (suc j) l
-  unfolding upTo
-  step j [] d h = absurd (omega arith)
-  step zero (x ∷ l) d h = refl
-  step (suc j) (x ∷ l) d h = ap (λ (t : List A). f x ∷ t) (step j l d (omega arith))
-
-  pub upTo-more : {m : List A} (l : List A) {j : ℕ} (d : A) {y : A} → m ≡ upTo j l → j < length l → y ≡ f (getD m j d) → set m j y ≡ upTo (j + 1) l
-  upTo-more l {j} d e h q = rw (q, e, add-one j) (step j l d h)
-
-  all : (j : ℕ) (l : List A) → length l ≤ j → upTo j l ≡ map f l
-  unfolding upTo
-  all zero [] h = refl
-  all zero (x ∷ l) h = absurd (omega arith)
-  all (suc j) [] h = refl
-  all (suc j) (x ∷ l) h = ap (λ (t : List A). f x ∷ t) (all j l (omega arith))
-
-  pub upTo-all : {m : List A} (l : List A) {j : ℕ} → m ≡ upTo j l → length l ≤ j → m ≡ map f l
-  upTo-all l {j} e h = e ∙ all j l h
-
--- The same with a function that goes by the element's number, from k on.
-
 module _ {A : Type 0} (f : ℕ → A → A) where
-  -- the first j of the elements from number k on
+  -- the first j elements, where the first of all has number k
   unfoldable pub upToBy : ℕ → ℕ → List A → List A
   upToBy zero k l = l
   upToBy (suc j) k [] = []
@@ -60,3 +28,26 @@ module _ {A : Type 0} (f : ℕ → A → A) where
 
   pub upToBy-more : {m : List A} (l : List A) {j : ℕ} (d : A) {y : A} → m ≡ upToBy j 0 l → j < length l → y ≡ f j (getD m j d) → set m j y ≡ upToBy (j + 1) 0 l
   upToBy-more l {j} d e h q = rw (q, e, add-one j) (rw zero-add at (stepBy j 0 l d h))
+
+-- The same where the number is nothing to f.
+
+module _ {A : Type 0} (f : A → A) where
+  -- the first j elements through f
+  abbrev pub upTo : ℕ → List A → List A
+  upTo j l = upToBy (λ _. f) j 0 l
+
+  pub upTo-none : (l : List A) → l ≡ upTo 0 l
+  upTo-none l = upToBy-none (λ _. f) 0 l
+
+  pub upTo-more : {m : List A} (l : List A) {j : ℕ} (d : A) {y : A} → m ≡ upTo j l → j < length l → y ≡ f (getD m j d) → set m j y ≡ upTo (j + 1) l
+  upTo-more l d e h q = upToBy-more (λ _. f) l d e h q
+
+  all : (j k : ℕ) (l : List A) → length l ≤ j → upToBy (λ _. f) j k l ≡ map f l
+  unfolding upToBy
+  all zero k [] h = refl
+  all zero k (x ∷ l) h = absurd (omega arith)
+  all (suc j) k [] h = refl
+  all (suc j) k (x ∷ l) h = ap (λ (t : List A). f x ∷ t) (all j (suc k) l (omega arith))
+
+  pub upTo-all : {m : List A} (l : List A) {j : ℕ} → m ≡ upTo j l → length l ≤ j → m ≡ map f l
+  upTo-all l {j} e h = e ∙ all j 0 l h

@@ -20,7 +20,7 @@ use Rattle.sweep.specs.SweepModulate.{sweepInRange}
 use Rattle.voice.specs.ChannelEnum.{stopVoice, stepAutoStop, stepFrequency, stepEnvelope, voiceWrite, waveInRange, sweptInRange, noiseInRange, waveKindInRange, sweptKindInRange, noiseKindInRange}
 use Rattle.voice.specs.declared.channel_enum.Voice.{Voice}
 use Rattle.six.proofs.CoreLaws.{silenced-left, silenced-right}
-use Rattle.six.specs.Core.{anyPlays, heardLeft, heardRight, plays, silenced, sumsOf, sweepFifth, total, voiceAt, voicesAfter, voicesInRange}
+use Rattle.six.specs.Core.{anyPlays, heardLeft, heardRight, plays, silenced, sumsOf, sweepFifth, total, voiceAt, voicesAfter, voicesAfterAll, voicesInRange}
 use Rattle.vsu.specs.Core.{SmallSums, allAtMost, allBytes, frameSide, cycle, decodeOf, makesFrame, frameOf, inRange, powerOn, run, shaped, write, writeTo}
 use Rattle.vsu.specs.declared.core.Register.{Register}
 use Rattle.vsu.specs.declared.core.Register.the-variants as registers
@@ -46,7 +46,7 @@ pub record InRange (u : Vsu) : Type 0 where
   pub output : u .output ≤ 479
   pub mutes : u .mutes ≤ 63
 
-six-facts : (vs : List Voice) → length vs ≡ 6 → voicesInRange vs ≡ true → Six vs
+pub six-facts : (vs : List Voice) → length vs ≡ 6 → voicesInRange vs ≡ true → Six vs
 unfolding voicesInRange
 six-facts vs n h =
     each (waveInRange (voiceAt 0 vs))
@@ -159,7 +159,7 @@ module _ (P : Voice → Type 0) {vs : List Voice} (k : Six vs) (w : (v : Voice) 
   wave-at (suc (suc (suc zero))) h = w _ (k .fourth)
   wave-at (suc (suc (suc (suc i)))) h = absurd (omega arith)
 
-  voice-at : ((v : Voice) → sweptInRange v ≡ true → P v) → ((v : Voice) → noiseInRange v ≡ true → P v) → (i : ℕ) → i < 6 → P (voiceAt i vs)
+  pub voice-at : ((v : Voice) → sweptInRange v ≡ true → P v) → ((v : Voice) → noiseInRange v ≡ true → P v) → (i : ℕ) → i < 6 → P (voiceAt i vs)
   voice-at s n zero h = w _ (k .first)
   voice-at s n (suc zero) h = w _ (k .second)
   voice-at s n (suc (suc zero)) h = w _ (k .third)
@@ -170,15 +170,24 @@ module _ (P : Voice → Type 0) {vs : List Voice} (k : Six vs) (w : (v : Voice) 
 
 -- a state in range stays in range under every cycle
 
-step-keeps : (m : List ℤ) {vs : List Voice} → Six vs → Six (voicesAfter m vs)
-unfolding voicesAfter sweepFifth Keeps
-step-keeps m {vs} k =
+pub walk-keeps : {vs : List Voice} → Six vs → Six (map stepEnvelope (map stepFrequency (map stepAutoStop vs)))
+unfolding Keeps
+walk-keeps {vs} k =
     let a : Six (map stepAutoStop vs) = map-keeps stepAutoStop (wave-kept .auto-stop) (swept-kept .auto-stop) (noise-kept .auto-stop) k in
     let b : Six (map stepFrequency (map stepAutoStop vs)) =
     map-keeps stepFrequency (wave-kept .frequency-step) (swept-kept .frequency-step) (noise-kept .frequency-step) a in
-    let c : Six (map stepEnvelope (map stepFrequency (map stepAutoStop vs))) =
-    map-keeps stepEnvelope (wave-kept .envelope-on) (swept-kept .envelope-on) (noise-kept .envelope-on) b in
+    map-keeps stepEnvelope (wave-kept .envelope-on) (swept-kept .envelope-on) (noise-kept .envelope-on) b
+
+step-keeps : (m : List ℤ) {vs : List Voice} → Six vs → Six (voicesAfter m vs)
+unfolding voicesAfter sweepFifth
+step-keeps m {vs} k =
+    let c : Six (map stepEnvelope (map stepFrequency (map stepAutoStop vs))) = walk-keeps k in
     set-keeps _ c 4 _ (λ e. swept-on-keeps m _ (c .fifth)) (λ e. absurd (omega arith)) (λ h. absurd (omega arith))
+
+pub steps-keep : (m : List ℤ) (n : ℕ) {vs : List Voice} → Six vs → Six (voicesAfterAll m n vs)
+unfolding voicesAfterAll
+steps-keep m zero k = k
+steps-keep m (suc n) k = step-keeps m (steps-keep m n k)
 
 cycle-facts : (u : Vsu) → InRange u → InRange (cycle u)
 unfolding cycle
@@ -200,6 +209,9 @@ pub run-keeps : (n : ℕ) (u : Vsu) → inRange u ≡ true → inRange (run n u)
 unfolding run
 run-keeps zero u h = h
 run-keeps (suc n) u h = cycle-keeps (run n u) (run-keeps n u h)
+
+pub run-voices : (n : ℕ) (u : Vsu) → inRange u ≡ true → voicesInRange (run n u .voices) ≡ true
+run-voices n u h = six-test (run n u .voices) (range-facts (run n u) (run-keeps n u h) .voices)
 
 -- and under every write
 

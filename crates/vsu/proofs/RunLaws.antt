@@ -54,7 +54,7 @@ frames-add m (suc n) u = rw (add-suc, frames-add m n u, run-add m n u, append-as
 -- n cycles in which no frame is made, and n of which the last makes one
 
 module _ (u : Vsu) where
-  voices-at : (n : ℕ) → run n u .voices ≡ voicesAfterAll (u .modulation) n (u .voices)
+  pub voices-at : (n : ℕ) → run n u .voices ≡ voicesAfterAll (u .modulation) n (u .voices)
   unfolding run cycle voicesAfterAll
   voices-at zero = refl
   voices-at (suc n) = ap₂ voicesAfter (run-modulation n u) (voices-at n)
