@@ -1,6 +1,8 @@
-// The timed run, the same as `oracle bench`: prints nothing on empty standard input; on a cycle count runs that many cycles with
-// all six voices playing, and prints the sum of the frames. On a log of edition 1 it checks that ten thousand times; on `adds` and a
-// count it fills a recorder's buffer so often, and prints a sum.
+// The timed runs, the same as those of `oracle bench`: prints nothing on empty standard input. On a cycle count it runs that many cycles with
+// all six voices playing by the cycle engine, and prints the sum of the frames; on `play` and a count by the quick engine. On `seek` and a
+// count the quick engine goes so far without frames, and then 48,000 cycles with them. On `highest` and a count every frequency is 2047, by
+// the quick engine; on `cycles` and a count by the cycle engine. On a log of edition 1 it checks that ten thousand times; on `adds` and
+// a count it fills a recorder's buffer so often, and prints a sum.
 mod adds;
 mod logs;
 
@@ -8,6 +10,7 @@ use libc::STDIN_FILENO;
 use libc::STDOUT_FILENO;
 use report::sum::of_frames;
 use vsu::core;
+use vsu::core::Ran;
 use vsu::core::Vsu;
 
 struct Timed {
@@ -102,28 +105,55 @@ fn ready() -> Timed {
     Timed { unit: u, sum: 0 }
 }
 
-fn run(t: Timed, n: u32, out: &mut [i16; 16384]) -> Timed {
-    let u = t.unit;
-    let r = core::run(u, n, out);
-    let s = r.state;
+// Every frequency 2047: a wave's sample every four cycles.
+fn highest(t: Timed) -> Timed {
+    let mut u = t.unit;
+    let mut c: u32 = 0;
+    while c < 6 {
+        u = set(u, 0x408 + 0x40 * c, 0xFF);
+        u = set(u, 0x40C + 0x40 * c, 7);
+        c += 1;
+    }
+    Timed { unit: u, sum: 0 }
+}
+
+fn summed(m: Ran, sum: u32, out: &[i16; 16384]) -> Timed {
+    let s = m.state;
     Timed {
         unit: s,
-        sum: of_frames(t.sum, out, r.frames),
+        sum: of_frames(sum, out, m.frames),
     }
 }
 
+fn run(t: Timed, n: u32, quickly: bool, out: &mut [i16; 16384]) -> Timed {
+    let u = t.unit;
+    if quickly {
+        let m = quick::run(u, n, out);
+        return summed(m, t.sum, out);
+    }
+    let m = core::run(u, n, out);
+    summed(m, t.sum, out)
+}
+
 // In parts, for a part's frames have to fit the buffer.
-fn sum_of(n: u64) -> u32 {
+fn sum_of(start: Timed, n: u64, quickly: bool) -> u32 {
     let mut out = [0i16; 16384];
-    let mut t = ready();
+    let mut t = start;
     let parts = n / 3_000_000;
     let mut i = 0;
     while i < parts {
-        t = run(t, 3_000_000, &mut out);
+        t = run(t, 3_000_000, quickly, &mut out);
         i += 1;
     }
-    let last = run(t, (n % 3_000_000) as u32, &mut out);
+    let last = run(t, (n % 3_000_000) as u32, quickly, &mut out);
     last.sum
+}
+
+fn sought(t: Timed, n: u32) -> Timed {
+    let u = t.unit;
+    let m = quick::advance(u, n);
+    let s = m.state;
+    Timed { unit: s, sum: 0 }
 }
 
 fn show(sum: u32) {
@@ -141,9 +171,12 @@ fn main() {
     if n == 0 {
         return;
     }
-    if text[0] == b'a' {
-        show(adds::sum_of(n));
-        return;
+    match text[0] {
+        b'a' => show(adds::sum_of(n)),
+        b'p' => show(sum_of(ready(), n, true)),
+        b's' => show(sum_of(sought(ready(), (n % 4_294_967_296) as u32), 48_000, true)),
+        b'h' => show(sum_of(highest(ready()), n, true)),
+        b'c' => show(sum_of(highest(ready()), n, false)),
+        _ => show(sum_of(ready(), n, false)),
     }
-    show(sum_of(n));
 }

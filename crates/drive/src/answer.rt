@@ -1,7 +1,6 @@
 // A call done, and its line: laid in the text that is lent, from its front on.
 use crate::call::Call;
 use crate::output::labelled;
-use crate::seek;
 use deck::Counts;
 use deck::Played;
 use deck::Player;
@@ -32,7 +31,7 @@ fn picture(p: Player, image: &mut [u8]) -> Answer {
 // A call other than a play. One that is none leaves the record.
 fn turned(p: Player, call: Call, log: &[u8], memory: &mut [u8], image: &mut [u8]) -> Turn {
     match call {
-        Call::Seek(target) => seek::seek(p, target, log),
+        Call::Seek(target) => player::seek(p, target, log),
         Call::Set(slot) => player::set_mark(p, slot, log, memory),
         Call::SetFree => player::set_free(p, log, memory),
         Call::Clear(slot) => player::clear_mark(p, slot),

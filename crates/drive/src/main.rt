@@ -3,7 +3,6 @@ mod answer;
 mod call;
 mod console;
 mod output;
-mod seek;
 
 use libc::STDERR_FILENO;
 use log::Checked;

@@ -1,4 +1,4 @@
-// The unit led through a log by its own calls, and what it says of each write.
+// The unit led through a log by its writes and the quick engine, and what it says of each write.
 use crate::output;
 use libc::STDOUT_FILENO;
 use log::Write;
@@ -72,7 +72,7 @@ pub(crate) fn through(log: &[u8], count: u32, cycles: u32) -> bool {
         let due = w.due;
         if cycle < due {
             let n = piece_of(due - cycle);
-            let m = core::advance(unit, n);
+            let m = quick::advance(unit, n);
             unit = m.state;
             cycle += n;
             told = shown(told, cycle, cycles);

@@ -37,7 +37,7 @@ fn next_due(log: &[u8], count: u32, applied: u32, target: u32) -> u32
     target
 }
 
-// The unit's own calls, on states in range: none is refused.
+// The unit's write and the quick engine's runs, on states in range: none is refused.
 
 fn written(u: Vsu, address: u16, byte: u8) -> Vsu
     ensures { λ r. ⌜ r ≡ writeOf address byte u .state ⌝ }
@@ -49,14 +49,14 @@ fn written(u: Vsu, address: u16, byte: u8) -> Vsu
 fn advanced(u: Vsu, n: u32) -> Vsu
     ensures { λ r. ⌜ r ≡ advanceOf n u .state ⌝ }
 {
-    let m = core::advance(u, n);
+    let m = quick::advance(u, n);
     m.state
 }
 
 fn ran(u: Vsu, n: u32, out: &mut [i16]) -> Vsu
     ensures { λ r. ⌜ (r ≡ runOf n u (now (out .entry)) .ran .state) × (now (out .exit) ≡ runOf n u (now (out .entry)) .out) ⌝ }
 {
-    let m = core::run(u, n, out);
+    let m = quick::run(u, n, out);
     m.state
 }
 

@@ -8,6 +8,8 @@ use libc::STDIN_FILENO;
 use refusal::Answer;
 use report::sum::of_frames;
 use vsu::core;
+use vsu::core::Moved;
+use vsu::core::Ran;
 use vsu::core::Vsu;
 
 // Where a replay stands.
@@ -37,7 +39,7 @@ fn words_in(b: &[u8], came: bool) -> Words {
     }
 }
 
-// A write's address and byte; a run's cycles, frames and sum; mute bits; the cycles to advance.
+// A write's address and byte; a run's cycles, frames and sum; mute bits; the cycles to advance. Q and J are R and A by the quick engine.
 fn taken(letter: u8) -> Words {
     let mut one = [0u8; 1];
     let mut five = [0u8; 5];
@@ -48,7 +50,7 @@ fn taken(letter: u8) -> Words {
             let n = io::read_full(STDIN_FILENO, &mut five);
             words_in(&five, n == 5)
         }
-        b'R' => {
+        b'R' | b'Q' => {
             let n = io::read_full(STDIN_FILENO, &mut twelve);
             words_in(&twelve, n == 12)
         }
@@ -89,8 +91,7 @@ fn compared(t: Tally, w: Words, a: Answer, frames: u32, sum: u32) -> Tally {
     tally::checked(tally::ran(t, w.a))
 }
 
-fn run(u: Vsu, t: Tally, w: Words, out: &mut [i16; 8192]) -> Replay {
-    let m = core::run(u, w.a, out);
+fn ran(m: Ran, t: Tally, w: Words, out: &[i16; 8192]) -> Replay {
     let v = m.state;
     let a = m.answer;
     let sum = of_frames(0, out, m.frames);
@@ -100,14 +101,33 @@ fn run(u: Vsu, t: Tally, w: Words, out: &mut [i16; 8192]) -> Replay {
     }
 }
 
-fn advance(u: Vsu, t: Tally, w: Words) -> Replay {
-    let m = core::advance(u, w.a);
+fn advanced(m: Moved, t: Tally, w: Words, what: &[u8]) -> Replay {
     let v = m.state;
     let a = m.answer;
     Replay {
         unit: v,
-        tally: tally::accepted(tally::ran(t, w.a), b"A refused", tally::refused(a)),
+        tally: tally::accepted(tally::ran(t, w.a), what, tally::refused(a)),
     }
+}
+
+// The cycle engine's two runs, and the quick engine's.
+
+fn run(u: Vsu, t: Tally, w: Words, out: &mut [i16; 8192]) -> Replay {
+    let m = core::run(u, w.a, out);
+    ran(m, t, w, out)
+}
+
+fn quick_run(u: Vsu, t: Tally, w: Words, out: &mut [i16; 8192]) -> Replay {
+    let m = quick::run(u, w.a, out);
+    ran(m, t, w, out)
+}
+
+fn advance(u: Vsu, t: Tally, w: Words) -> Replay {
+    advanced(core::advance(u, w.a), t, w, b"A refused")
+}
+
+fn quick_advance(u: Vsu, t: Tally, w: Words) -> Replay {
+    advanced(quick::advance(u, w.a), t, w, b"J refused")
 }
 
 fn muted(u: Vsu, t: Tally, w: Words) -> Replay {
@@ -134,6 +154,8 @@ fn moved(u: Vsu, t: Tally, letter: u8, out: &mut [i16; 8192]) -> Replay {
     match letter {
         b'W' => write(u, t, w),
         b'R' => run(u, t, w, out),
+        b'Q' => quick_run(u, t, w, out),
+        b'J' => quick_advance(u, t, w),
         b'M' => muted(u, t, w),
         _ => advance(u, t, w),
     }
@@ -190,7 +212,7 @@ fn op(u: Vsu, t: Tally, letter: u8, out: &mut [i16; 8192]) -> Replay {
             tally: tally::begin(t),
         },
         b'L' => load(u, t),
-        b'W' | b'R' | b'A' | b'M' => moved(u, t, letter, out),
+        b'W' | b'R' | b'Q' | b'A' | b'J' | b'M' => moved(u, t, letter, out),
         _ => Replay {
             unit: u,
             tally: asked(u, t, letter),

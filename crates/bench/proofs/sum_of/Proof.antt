@@ -5,13 +5,10 @@ use Rattle.bench.proofs.sum_of.Statement.{statement}
 use Rattle.bench.proofs.sum_of.Tie as tie
 
 abbrev Inv-loop : tie.InvT-loop
-Inv-loop n out₀ t₀ parts i₀ out t i = Unit {0}
+Inv-loop n quickly out₀ t₀ parts i₀ out t i = Unit {0}
 
 abbrev μ-loop : tie.MeasureT-loop
-μ-loop n out₀ t₀ parts i₀ out t i = parts - i
-
-ready-requires : tie.Need-ready-requires Inv-loop μ-loop
-ready-requires c κs = search needs
+μ-loop n quickly out₀ t₀ parts i₀ out t i = parts - i
 
 loop-holds : tie.Need-loop-holds Inv-loop μ-loop
 loop-holds c = search needs
@@ -43,7 +40,6 @@ sum-of-spec =
     (tie.spec
     Inv-loop
     μ-loop
-    ready-requires
     loop-holds
     run-requires
     add-i
