@@ -1,6 +1,6 @@
 //! The work that is timed: the same writes and the same fold as the timed Rattle program has.
 
-use crate::digest::FrameSum;
+use crate::digest::{Dropped, FrameSum};
 use crate::vsu::core::VSU;
 
 pub fn writes() -> Vec<(u32, u8)> {
@@ -25,11 +25,40 @@ pub fn writes() -> Vec<(u32, u8)> {
     list
 }
 
+/// The frequency of every channel at its largest, 2047.
+pub fn highest_writes() -> Vec<(u32, u8)> {
+    (0..6).map(|c| 0x400 + 0x40 * c).flat_map(|base| [(base + 0x08, 0xFF), (base + 0x0C, 0x07)]).collect()
+}
+
 pub fn bench(cycles: usize) -> u32 {
+    sum(&mut started(), cycles)
+}
+
+/// How a seek runs: nothing is heard on the way, and what comes after it shows where it came to.
+pub fn advance(cycles: usize) -> u32 {
+    let mut unit = started();
+    unit.step(cycles, &mut Dropped);
+    sum(&mut unit, 48_000)
+}
+
+/// The sample of every wave changes every four cycles.
+pub fn highest(cycles: usize) -> u32 {
+    let mut unit = started();
+    write(&mut unit, &highest_writes());
+    sum(&mut unit, cycles)
+}
+
+fn started() -> VSU {
     let mut unit = VSU::new();
-    for (address, byte) in writes() {
-        unit.set_u8(address as usize, byte);
-    }
+    write(&mut unit, &writes());
+    unit
+}
+
+fn write(unit: &mut VSU, list: &[(u32, u8)]) {
+    list.iter().for_each(|(address, byte)| unit.set_u8(*address as usize, *byte));
+}
+
+fn sum(unit: &mut VSU, cycles: usize) -> u32 {
     let mut sink = FrameSum::default();
     unit.step(cycles, &mut sink);
     sink.sum

@@ -28,6 +28,13 @@ impl Sink<AudioFrame> for FrameSum {
     }
 }
 
+/// A sink that drops the frames.
+pub struct Dropped;
+
+impl Sink<AudioFrame> for Dropped {
+    fn append(&mut self, _: AudioFrame) {}
+}
+
 /// A sink that keeps the frames.
 #[derive(Default)]
 pub struct Frames(pub Vec<AudioFrame>);

@@ -35,13 +35,13 @@ pub fn explain(bytes: &[u8], all: Option<u64>, print: &mut dyn FnMut(String)) ->
                 unit.mutes = bits.into();
                 format!("M {bits:#08b}")
             }
-            Op::Run { n, made } => {
+            Op::Run { by, n, made } => {
                 unit.step(n, &mut frames);
-                format!("R {n}: {} frames, sum {}", made.frames, made.sum)
+                format!("{} {n}: {} frames, sum {}", by.run(), made.frames, made.sum)
             }
-            Op::Silent { n } => {
+            Op::Silent { by, n } => {
                 unit.step(n, &mut frames);
-                format!("A {n}")
+                format!("{} {n}", by.silent())
             }
             Op::State { sum } => format!("S {sum}{}", wrong(sum_of(&unit.image()) != sum)),
             Op::Image(bytes) => format!("I{}", wrong(unit.image() != *bytes)),

@@ -5,6 +5,7 @@ use crate::console::decimal;
 use crate::log::{check, writes, Refused, Write};
 use crate::run::Run;
 use crate::sorts::{Counts, Sort};
+use crate::vsu::traits::AudioFrame;
 
 /// The most bytes of a log that the lister takes, and that the other programs take.
 pub const LISTED: usize = 65_536;
@@ -62,6 +63,10 @@ pub fn check_wav(input: &[u8]) -> Result<(u32, &[u8], u32), Refused> {
 pub fn wav(input: &[u8]) -> Result<Vec<u8>, Refused> {
     let (mutes, log, cycles) = check_wav(input)?;
     let frames = Run::new(writes(log)).frames(0, cycles, mutes);
+    Ok(wav_of(frames.into_iter().map(|(_, frame)| frame)))
+}
+
+pub fn wav_of(frames: impl ExactSizeIterator<Item = AudioFrame>) -> Vec<u8> {
     let size = 4 * frames.len() as u32;
     let mut bytes = Vec::new();
     bytes.extend(b"RIFF");
@@ -73,10 +78,10 @@ pub fn wav(input: &[u8]) -> Result<Vec<u8>, Refused> {
     bytes.extend([4u16, 16].map(u16::to_le_bytes).concat()); // bytes of a frame, bits of a side
     bytes.extend(b"data");
     bytes.extend(size.to_le_bytes());
-    for (_, (left, right)) in frames {
+    for (left, right) in frames {
         bytes.extend([left, right].map(i16::to_le_bytes).concat());
     }
-    Ok(bytes)
+    bytes
 }
 
 /// A line for each entry that was not taken, then how many there are of each sort; or the line of the refusal.

@@ -1,20 +1,24 @@
 use oracle::console::Console;
+use oracle::log::Refused;
 use oracle::programs::{Against, Kind};
 use oracle::stream::Maker;
 use oracle::{
-    bench, constants, exchange, explain, listing, logcases, logstream, pairlist, random, recorder, replay, sample,
-    stems, stemslog, wavlog,
+    bench, constants, exchange, explain, listing, logcases, logstream, pairlist, quick, random, recorder, render,
+    replay, sample, stems, stemslog, wavlog,
 };
 use std::io::{BufRead, BufWriter, Read, Write};
 use std::mem::take;
 use std::process::exit;
 
 const USAGE: &str = "usage: oracle constants
-       oracle sample                          the stored sample stream, to standard output
+       oracle sample [short]                  the stored sample stream, to standard output; short: without its long span
        oracle random SEED CASES [MAXCYCLES]   a stream of random cases, none longer than MAXCYCLES
+       oracle quick SEED CASES [MAXCYCLES]    a stream of random cases for the quick engine, no span longer than MAXCYCLES
        oracle replay                          replays a stream from standard input on the Rust itself
        oracle explain [OP]                    prints a stream to read; all fields after op number OP
-       oracle bench CYCLES
+       oracle bench [highest] CYCLES          the sum of the frames of the timed run; highest: with every frequency 2047
+       oracle bench advance CYCLES            that of 48,000 cycles after so many whose frames are dropped
+       oracle render                          a WAV of the log on standard input, made in the fastest way, to be timed
        oracle logs SEED CASES                 a stream of random and damaged logs
        oracle logsample                       the stored sample of logs, to standard output
        oracle logreplay                       replays a stream of logs from standard input on the oracle's own reading
@@ -38,21 +42,24 @@ fn main() {
     let words: Vec<&str> = words.iter().map(String::as_str).collect();
     match words[..] {
         ["constants"] => print_constants(),
-        ["sample"] => write_sample(),
+        ["sample"] => write_sample(&[&sample::PARTS[..], &[sample::LONG]].concat()),
+        ["sample", "short"] => write_sample(&sample::PARTS),
         ["random", seed, cases] => write_random(number(seed), number(cases), random::MAX_CYCLES),
         ["random", seed, cases, max] => write_random(number(seed), number(cases), number(max) as u32),
+        ["quick", seed, cases] => write_quick(number(seed), number(cases), quick::MAX_CYCLES),
+        ["quick", seed, cases, max] => write_quick(number(seed), number(cases), number(max) as u32),
         ["replay"] => report(replay::replay(&read_in())),
         ["explain"] => run_explain(None),
         ["explain", op] => run_explain(Some(number(op))),
         ["bench", cycles] => println!("{}", bench::bench(number(cycles) as usize)),
+        ["bench", "advance", cycles] => println!("{}", bench::advance(number(cycles) as usize)),
+        ["bench", "highest", cycles] => println!("{}", bench::highest(number(cycles) as usize)),
         ["logs", seed, cases] => write_logs(number(seed), number(cases)),
         ["logsample"] => write_logsample(),
         ["logreplay"] => report(logstream::replay(&read_in())),
         ["lister"] => put(listing::listing(&read_in()).as_bytes()),
-        ["wav"] => match listing::wav(&read_in()) {
-            Ok(bytes) => put(&bytes),
-            Err(why) => eprint!("{}", listing::refused(why)),
-        },
+        ["wav"] => put_wav(listing::wav(&read_in())),
+        ["render"] => put_wav(render::render(&read_in())),
         ["heard"] => put(listing::heard(&read_in()).as_bytes()),
         ["stems"] => put(stems::stems(&read_in()).as_bytes()),
         ["wavlog"] => put(&wavlog::stored()),
@@ -79,9 +86,16 @@ fn print_constants() {
     println!("SOUND_SAMPLE_RATE_CYCLE_COUNT {}", constants::SOUND_SAMPLE_RATE_CYCLE_COUNT);
 }
 
-fn write_sample() {
+fn put_wav(made: Result<Vec<u8>, Refused>) {
+    match made {
+        Ok(bytes) => put(&bytes),
+        Err(why) => eprint!("{}", listing::refused(why)),
+    }
+}
+
+fn write_sample(parts: &[sample::Part]) {
     let mut maker = Maker::new();
-    for (name, part) in sample::PARTS {
+    for (name, part) in parts {
         let (bytes, before) = (maker.bytes.len(), maker.totals);
         part(&mut maker);
         let now = maker.totals;
@@ -101,13 +115,21 @@ fn pour(mut pieces: impl Iterator<Item = Vec<u8>>) -> bool {
     pieces.all(|piece| out.write_all(&piece).is_ok()) && out.flush().is_ok()
 }
 
-/// The totals go to standard error, so that a script can hold the replaying program's count against them.
 fn write_random(seed: u64, cases: u64, max_cycles: u32) {
+    write_cases(seed, cases, |maker, numbers, _| random::case(maker, numbers, max_cycles));
+}
+
+fn write_quick(seed: u64, cases: u64, max_cycles: u32) {
+    write_cases(seed, cases, |maker, numbers, number| quick::case(maker, numbers, number, max_cycles));
+}
+
+/// The totals go to standard error, so that a script can hold the replaying program's count against them.
+fn write_cases(seed: u64, cases: u64, case: impl Fn(&mut Maker, &mut random::Numbers, u64)) {
     let mut maker = Maker::new();
     let mut numbers = random::Numbers::new(seed);
     let all = pour((0..=cases).map(|i| {
         if i < cases {
-            random::case(&mut maker, &mut numbers, max_cycles)
+            case(&mut maker, &mut numbers, i)
         } else {
             maker.end()
         }

@@ -40,7 +40,8 @@ fn step(op: Op, unit: &mut Unit, totals: &mut Totals) -> Result<bool, String> {
         }
         Op::Write { address, byte } => unit.write(address, byte),
         Op::Mute { bits } => unit.mutes = bits.into(),
-        Op::Run { n, made } => {
+        // the messages name one letter for both engines
+        Op::Run { n, made, .. } => {
             let mut sink = FrameSum::default();
             unit.step(n, &mut sink);
             same("R frames", made.frames, sink.frames)?;
@@ -48,8 +49,8 @@ fn step(op: Op, unit: &mut Unit, totals: &mut Totals) -> Result<bool, String> {
             totals.checks += 1;
             totals.cycles += n as u64;
         }
-        Op::Silent { n } => {
-            unit.step(n, &mut FrameSum::default());
+        Op::Silent { n, .. } => {
+            unit.silent(n as usize);
             totals.cycles += n as u64;
         }
         Op::State { sum } => {

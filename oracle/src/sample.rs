@@ -2,13 +2,14 @@
 //! what each part covers; `oracle sample` prints the size of each part.
 
 use crate::imagecases;
+use crate::quicksample;
 use crate::random::{self, Numbers};
 use crate::state::{power_on, State, NOISE, SWEPT};
 use crate::stream::Maker;
 
-type Part = (&'static str, fn(&mut Maker));
+pub type Part = (&'static str, fn(&mut Maker));
 
-pub const PARTS: [Part; 24] = [
+pub const PARTS: [Part; 34] = [
     ("frames", frames),
     ("registers", registers),
     ("waves", waves),
@@ -33,8 +34,23 @@ pub const PARTS: [Part; 24] = [
     ("image pairs", imagecases::part_pairs),
     ("image editions", imagecases::part_editions),
     ("image lengths", imagecases::part_lengths),
+    ("both: sweep stops", quicksample::sweep_stops),
+    ("both: clock switched", quicksample::clock_switched),
+    ("both: auto-stop", quicksample::auto_stop),
+    ("both: modulation", quicksample::modulation),
+    ("both: highest", quicksample::highest),
+    ("both: taps", quicksample::taps),
+    ("both: nothing plays", quicksample::nothing_plays),
+    ("both: envelopes", quicksample::envelopes),
+    ("both: pitches", quicksample::pitches),
+    ("both: spans", quicksample::spans),
 ];
 
+/// The last part of the stored sample. The Rust needs some minutes for it, so that it is left out wherever the sample is gone over
+/// more than once.
+pub const LONG: Part = ("quick: long span", quicksample::long_span);
+
+/// All of the stored sample but its long span.
 pub fn sample() -> Maker {
     let mut m = Maker::new();
     for (_, part) in PARTS {
@@ -45,7 +61,7 @@ pub fn sample() -> Maker {
 }
 
 /// The first address of a channel's registers.
-fn base(channel: usize) -> u32 {
+pub(crate) fn base(channel: usize) -> u32 {
     0x400 + 0x40 * channel as u32
 }
 
@@ -67,7 +83,7 @@ fn write_frequency(m: &mut Maker, channel: usize, frequency: u32) {
 }
 
 /// A state in which all six channels play and nearly every number is its own.
-fn busy() -> State {
+pub(crate) fn busy() -> State {
     let mut s = power_on();
     for (i, v) in s.waves.iter_mut().enumerate() {
         *v = (i as u32 * 7 + 3) % 64;
@@ -116,7 +132,7 @@ fn busy() -> State {
 }
 
 /// Only channel 5 plays, its sweep is one cycle before its next step, and each period of the fast clock is a step.
-fn about_to_sweep() -> State {
+pub(crate) fn about_to_sweep() -> State {
     let mut s = busy();
     s.channels.iter_mut().for_each(|c| c.play = 0);
     s.channels[SWEPT].play = 1;

@@ -8,11 +8,41 @@ use crate::reader::Reader;
 use crate::state::{in_range, State};
 use crate::unit::Unit;
 
-/// The most cycles of one op.
+/// The most cycles of one op of the cycle engine.
 pub const MOST: u32 = 1_900_000;
+
+/// The most frames of one run: what a replaying program has room for.
+pub const MOST_FRAMES: u32 = 4_096;
 
 /// The most bytes that are read as an image: what a replaying program has room for.
 pub const MOST_BYTES: usize = 1_024;
+
+/// Which of document 02 (vii)'s two engines a replaying program runs by. The Rust is the same for both.
+#[derive(Clone, Copy, Debug, PartialEq)]
+pub enum Engine {
+    Cycle,
+    Quick,
+}
+
+impl Engine {
+    pub const BOTH: [Engine; 2] = [Engine::Cycle, Engine::Quick];
+
+    /// The letter of a run with frames.
+    pub fn run(self) -> char {
+        match self {
+            Engine::Cycle => 'R',
+            Engine::Quick => 'Q',
+        }
+    }
+
+    /// The letter of a run whose frames are not looked at.
+    pub fn silent(self) -> char {
+        match self {
+            Engine::Cycle => 'A',
+            Engine::Quick => 'J',
+        }
+    }
+}
 
 /// One op of a stream. The bytes are in README.md.
 #[derive(Clone, Debug, PartialEq)]
@@ -21,8 +51,8 @@ pub enum Op {
     Load(Box<[u8; LENGTH]>),
     Write { address: u32, byte: u8 },
     Mute { bits: u8 },
-    Run { n: u32, made: FrameSum },
-    Silent { n: u32 },
+    Run { by: Engine, n: u32, made: FrameSum },
+    Silent { by: Engine, n: u32 },
     State { sum: u32 },
     Image(Box<[u8; LENGTH]>),
     Byte { at: u16, value: u8, answer: Refused },
@@ -102,10 +132,15 @@ impl Maker {
     }
 
     pub fn run(&mut self, n: u32) {
-        assert!(n <= MOST);
+        self.run_by(Engine::Cycle, n);
+    }
+
+    pub fn run_by(&mut self, by: Engine, n: u32) {
+        assert!(by == Engine::Quick || n <= MOST);
         let mut made = FrameSum::default();
         self.unit.step(n, &mut made);
-        self.bytes.push(b'R');
+        assert!(made.frames <= MOST_FRAMES);
+        self.bytes.push(by.run() as u8);
         self.put(n);
         self.put(made.frames);
         self.put(made.sum);
@@ -114,9 +149,13 @@ impl Maker {
     }
 
     pub fn silent(&mut self, n: u32) {
-        assert!(n <= MOST);
-        self.unit.step(n, &mut FrameSum::default());
-        self.bytes.push(b'A');
+        self.silent_by(Engine::Cycle, n);
+    }
+
+    pub fn silent_by(&mut self, by: Engine, n: u32) {
+        assert!(by == Engine::Quick || n <= MOST);
+        self.unit.silent(n as usize);
+        self.bytes.push(by.silent() as u8);
         self.put(n);
         self.totals.cycles += n as u64;
     }
@@ -200,8 +239,10 @@ pub fn op(reader: &mut Reader) -> Result<Op, String> {
             bits @ 0..=63 => Op::Mute { bits },
             _ => return Err("M is above 63".to_string()),
         },
-        b'R' => Op::Run { n: reader.number()?, made: FrameSum { frames: reader.number()?, sum: reader.number()? } },
-        b'A' => Op::Silent { n: reader.number()? },
+        b'R' => read_run(Engine::Cycle, reader)?,
+        b'Q' => read_run(Engine::Quick, reader)?,
+        b'A' => Op::Silent { by: Engine::Cycle, n: reader.number()? },
+        b'J' => Op::Silent { by: Engine::Quick, n: reader.number()? },
         b'S' => Op::State { sum: reader.number()? },
         b'I' => Op::Image(Box::new(reader.array::<LENGTH>()?)),
         b'B' => {
@@ -221,6 +262,11 @@ pub fn op(reader: &mut Reader) -> Result<Op, String> {
         b'E' => Op::End,
         _ => return Err("is no op".to_string()),
     })
+}
+
+fn read_run(by: Engine, reader: &mut Reader) -> Result<Op, String> {
+    let [n, frames, sum] = reader.numbers()?;
+    Ok(Op::Run { by, n, made: FrameSum { frames, sum } })
 }
 
 fn read_answer(reader: &mut Reader) -> Result<Refused, String> {

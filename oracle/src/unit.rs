@@ -3,7 +3,7 @@
 //! volumes 0, which runs no more than the cycle that makes it. The unit itself runs on unmuted.
 
 use crate::constants::SOUND_SAMPLE_RATE_CYCLE_COUNT;
-use crate::digest::FrameSum;
+use crate::digest::Dropped;
 use crate::fields::{Fields, Part};
 use crate::image::{image_of, LENGTH};
 use crate::state::{read, write, State};
@@ -52,9 +52,9 @@ impl Unit {
         self.silent(left);
     }
 
-    /// The frames are not looked at.
-    fn silent(&mut self, n: usize) {
-        self.rust.step(n, &mut FrameSum::default());
+    /// Runs so many cycles, the frames not looked at: mutes change nothing else.
+    pub fn silent(&mut self, n: usize) {
+        self.rust.step(n, &mut Dropped);
     }
 }
 

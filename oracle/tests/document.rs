@@ -221,8 +221,8 @@ fn replay(bytes: &[u8]) {
             Op::Load(image) => s = state_of(&image).unwrap(),
             Op::Write { address, byte } => write(&mut s, address, byte as u32),
             Op::Mute { bits } => s.mutes = bits.into(),
-            Op::Run { n, made } => assert_eq!(run(&mut s, n), made, "op {number}"),
-            Op::Silent { n } => {
+            Op::Run { n, made, .. } => assert_eq!(run(&mut s, n), made, "op {number}"),
+            Op::Silent { n, .. } => {
                 run(&mut s, n);
             }
             Op::State { sum } => assert_eq!(sum_of(&image_of(&s)), sum, "op {number}: {s:?}"),

@@ -3,12 +3,13 @@
 use oracle::constants::*;
 use oracle::digest::{sum_of, Frames};
 use oracle::image::{first_edition, from_image, image, image_of, state_of, written_back, LENGTH};
+use oracle::quick;
 use oracle::random::{case, muted_state, mutes, state, write as any_write, Numbers};
 use oracle::reader::Reader;
 use oracle::replay::replay;
 use oracle::sample::sample;
 use oracle::state::{in_range, power_on, read, write, State, NOISE, SWEPT};
-use oracle::stream::{op, Maker, Op};
+use oracle::stream::{op, Engine, Maker, Op};
 use oracle::unit::Unit;
 use oracle::vsu::channel::Channel;
 use oracle::VSU;
@@ -324,8 +325,15 @@ fn replay_finds_a_wrong_answer() {
     answers(&maker, &[420, 404, 42, 2, 1]);
     maker.write(0x404, 0x5A);
     answers(&maker, &[4, 1]);
-    maker.run(2_000);
-    answers(&maker, &[8, 4, 1]);
+    for by in Engine::BOTH {
+        maker.run_by(by, 2_000);
+        answers(&maker, &[8, 4, 1]);
+        maker.silent_by(by, 2_000);
+        // the cycles are no answer, but other cycles leave another state
+        answers(&maker, &[4]);
+        maker.state();
+        answers(&maker, &[4, 1]);
+    }
     maker.byte(16, 64);
     answers(&maker, &[3, 2, 1]);
     maker.byte(16, 63);
@@ -359,6 +367,14 @@ fn replay_names_what_differs() {
     assert_eq!(said(b"PS\x00\x00\x00"), "case 1 op 1 the stream ends before its E");
     assert_eq!(said(b"PX"), "case 1 op 1 is no op");
     assert_eq!(said(b"PM\x40E"), "case 1 op 1 M is above 63");
+    // by either engine
+    for letter in ["R", "Q"] {
+        let one = |frames| [b"P", letter.as_bytes(), &[0xE0, 1, 0, 0, frames, 0, 0, 0, 7, 0, 0, 0], b"E"].concat();
+        assert_eq!(said(&one(2)), "case 1 op 1 R frames expected 2 got 1");
+        assert_eq!(said(&one(1)), "case 1 op 1 R sum expected 7 got 0");
+    }
+    assert_eq!(said(b"PQ\x00\x00\x00\x00\x00\x00\x00\x00"), "case 1 op 1 the stream ends before its E");
+    assert_eq!(said(b"PJ\x00\x00\x00"), "case 1 op 1 the stream ends before its E");
     // edition 1 is written back as edition 2, so that its own image is another one
     let first = first_edition(image_of(&power_on()));
     assert_eq!(said(&[b"PI", &first[..], b"E"].concat()), "case 1 op 1 I image offset 0 expected 1 got 2");
@@ -395,6 +411,21 @@ fn every_write_and_run_is_looked_at() {
         (0..200).for_each(|_| case(&mut maker, &mut numbers, 5_000));
         maker.end();
         looked_at(&maker.bytes, true);
+        let (mut maker, mut numbers) = (Maker::new(), Numbers::new(seed));
+        (0..20).for_each(|number| quick::case(&mut maker, &mut numbers, number, 5_000));
+        maker.end();
+        looked_at(&maker.bytes, false);
+    }
+}
+
+fn cycles_by(bytes: &[u8], engine: Engine) -> u64 {
+    let (mut reader, mut cycles) = (Reader::new(bytes), 0);
+    loop {
+        match op(&mut reader).unwrap() {
+            Op::Run { by, n, .. } | Op::Silent { by, n } if by == engine => cycles += n as u64,
+            Op::End => return cycles,
+            _ => {}
+        }
     }
 }
 
@@ -402,6 +433,8 @@ fn every_write_and_run_is_looked_at() {
 fn sample_is_small() {
     let made = sample();
     assert_eq!(replay(&made.bytes), Ok(made.totals));
-    assert!(made.bytes.len() < 151_000);
-    assert!(made.totals.cycles < 6_000_000);
+    assert!(made.bytes.len() < 210_000);
+    // what the cycle engine has to run, which is the slower one
+    assert!(cycles_by(&made.bytes, Engine::Cycle) < 6_500_000);
+    assert!(made.totals.cycles < 9_500_000);
 }

@@ -160,7 +160,7 @@ fn images(stream: &[u8]) -> Vec<(Vec<u8>, Refused)> {
             }
             Op::Write { address, byte } => unit.write(address, byte),
             Op::Mute { bits } => unit.mutes = bits.into(),
-            Op::Run { n, .. } | Op::Silent { n } => unit.step(n, &mut oracle::digest::FrameSum::default()),
+            Op::Run { n, .. } | Op::Silent { n, .. } => unit.step(n, &mut oracle::digest::FrameSum::default()),
             Op::State { .. } => {}
             Op::Image(image) => {
                 assert_eq!(unit.image(), *image);
