@@ -64,9 +64,9 @@ pub fn family(number: u64) -> Family {
 pub fn case(maker: &mut Maker, r: &mut Numbers, number: u64, max: u32) {
     let mut case = Case { maker, r, max };
     match family(number) {
-        Family::SweepStops => (0..4).for_each(|_| case.sweep_stops()),
+        Family::SweepStops => (0..6).for_each(|turn| case.sweep_stops(turn % 2)),
         Family::ClockSwitched => (0..4).for_each(|_| case.clock_switched()),
-        Family::AutoStop => (0..4).for_each(|_| case.auto_stop()),
+        Family::AutoStop => (0..4).for_each(|turn| case.auto_stop(turn % 2 == 1)),
         Family::Modulation(loops) => (0..4).for_each(|_| case.modulation(loops)),
         Family::Highest => case.highest(),
         Family::Taps => case.taps(),
@@ -262,17 +262,17 @@ impl Case<'_> {
         self.look();
     }
 
-    fn sweep_stops(&mut self) {
+    fn sweep_stops(&mut self, auto_stop: u32) {
         self.start(|s, r| {
             let (c, w) = (&mut s.channels[SWEPT], &mut s.sweep);
             // the live tick counts until the sweep stops the channel
-            (c.play, c.auto_stop, c.live_tick) = (1, r.below(2), r.below(1_000));
+            (c.play, c.auto_stop, c.live_tick) = (1, auto_stop, r.below(1_000));
             (w.enable, w.modulate, w.up) = (1, 0, 1);
-            (w.slow, w.interval) = (u32::from(r.one_in(6)), w.interval.max(1));
+            (w.slow, w.interval) = (u32::from(r.one_in(6)), 1 + r.below(3));
             (w.shift, w.next) = (r.below(3), 2_047 - r.below(900));
         });
         let n = to_sweep(&self.maker.present());
-        if self.r.one_in(2) {
+        if self.r.one_in(3) {
             self.span_next_to(n);
         } else {
             let more = self.r.below(2_000);
@@ -302,19 +302,19 @@ impl Case<'_> {
         }
     }
 
-    fn auto_stop(&mut self) {
+    /// With `both`, channel 5's sweep is due in the very cycle of its stop.
+    fn auto_stop(&mut self, both: bool) {
         self.start(|s, r| {
             for c in &mut s.channels {
                 (c.play, c.auto_stop) = (1, u32::from(!r.one_in(5)));
                 c.live_tick = LIVE - 1 - r.below(3_000);
             }
-            let cycles = LIVE - s.channels[SWEPT].live_tick;
-            if r.one_in(2) {
-                // "in this order": in the cycle of the stop the sweep is due too
-                let w = &mut s.sweep;
-                (w.enable, w.interval) = (1, w.interval.max(1));
+            if both {
+                let (end, c, w) = (period(s), &mut s.channels[SWEPT], &mut s.sweep);
+                (c.auto_stop, c.live_counter) = (1, c.live_interval);
+                (w.enable, w.interval, w.up, w.next) = (1, w.interval.max(1), 0, 2_047 - r.below(1_000));
                 w.interval_counter = w.interval - 1;
-                w.step_counter = if w.slow == 1 { SLOW } else { FAST } - cycles;
+                w.step_counter = end - (LIVE - c.live_tick);
             }
         });
         if self.r.one_in(3) {
