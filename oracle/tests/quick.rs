@@ -523,38 +523,36 @@ fn spans(bytes: &[u8]) -> Vec<Span> {
     for number in 0.. {
         let before = unit.state();
         let (by, n, made) = match op(&mut reader).unwrap() {
-            Op::Power => {
-                unit = Unit::new();
-                continue;
-            }
-            Op::Load(image) => {
-                unit = Unit::of(&state_of(&image).unwrap());
-                continue;
-            }
+            Op::Run { by, n, made } => (by, n, Some(made)),
+            Op::Silent { by, n } => (by, n, None),
             Op::Write { address, byte } => {
                 unit.write(address, byte);
                 let now = unit.state().sweep;
                 switched = before.sweep.slow == 1 && now.slow == 0 && now.step_counter > 19_201;
                 continue;
             }
-            Op::Mute { bits } => {
-                unit.mutes = bits.into();
+            Op::End => break,
+            other => {
+                prepare(&mut unit, &other);
                 continue;
             }
-            Op::Run { by, n, made } => (by, n, Some(made)),
-            Op::Silent { by, n } => (by, n, None),
-            Op::Image(image) => {
-                assert_eq!(unit.image(), *image, "op {number}");
-                continue;
-            }
-            Op::End => return list,
-            _ => continue,
         };
         unit.silent(n as usize);
         list.push(Span { number, by, before, n, made, after: unit.state(), switched });
         switched = false;
     }
     list
+}
+
+/// An op before a span, or what is looked at after it.
+fn prepare(unit: &mut Unit, op: &Op) {
+    match op {
+        Op::Power => *unit = Unit::new(),
+        Op::Load(image) => *unit = Unit::of(&state_of(image).unwrap()),
+        Op::Mute { bits } => unit.mutes = (*bits).into(),
+        Op::Image(image) => assert_eq!(unit.image(), **image),
+        _ => {}
+    }
 }
 
 /// What an engine does otherwise than the Rust on a span.
