@@ -1,1 +1,2 @@
 pub mod VoicesLaws
+pub mod Engines
