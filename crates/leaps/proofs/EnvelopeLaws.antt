@@ -1,7 +1,7 @@
 -- Step 3: before its distance no more moves than the tick, by plain addition, or round where the envelope is off; at it the step is due.
 use Prim.Native.Nat.{ℕ, suc, _+_, _-_, _%_, _<_, _≤_}
 use mathlib.Core.Path.{_≡_, refl, sym, ap, _∙_}
-use mathlib.Core.Bool.{Bool, true, false, cond}
+use mathlib.Core.Bool.{Bool, true, false}
 use native.Mathlib.Omega.{arith}
 use borrow.Author.Tests.{le-leb, leb-true, leb-false}
 use Rattle.common.proofs.ChannelLaws.{envelope-counts, envelope-off}

@@ -13,7 +13,7 @@ pub fn least(a: u32, b: u32) -> u32
 }
 
 // How far x is below `last`.
-pub fn short_of(last: u32, x: u32) -> u32
+pub(crate) fn short_of(last: u32, x: u32) -> u32
     ensures { λ r. ⌜ r ≡ last - x ⌝ }
 {
     if x < last { last - x } else { 0 }

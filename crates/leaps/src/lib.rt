@@ -1,8 +1,8 @@
 // How far each part of a voice is from its next change, and what it is some cycles on.
 pub mod channel_enum;
 pub mod distance;
-pub mod envelope;
-pub mod live;
+mod envelope;
+mod live;
 pub mod pitch;
-pub mod sample;
-pub mod sweep_modulate;
+mod sample;
+mod sweep_modulate;

@@ -5,10 +5,6 @@ use mathlib.Core.Path.{_∙_, sym}
 use borrow.Author.Needs.{needs}
 use Rattle.quick.proofs.skip.Statement.{statement}
 use Rattle.quick.proofs.skip.Tie as tie
-use Rattle.quick.proofs.skip.Reads as reads
-use Rattle.quick.proofs.skip.Lts as lts
-use Rattle.quick.proofs.output_after.Reads as output-after-reads
-use Rattle.quick.proofs.voices.cycles.Reads as cycles-reads
 
 cycles-requires : tie.Need-cycles-requires
 unfolding run

@@ -4,10 +4,6 @@ use mathlib.Core.Path.{_∙_, ap}
 use borrow.Author.Needs.{needs}
 use Rattle.leaps.proofs.channel_enum.all_leap.Statement.{statement}
 use Rattle.leaps.proofs.channel_enum.all_leap.Tie as tie
-use Rattle.leaps.proofs.channel_enum.all_leap.Reads as reads
-use Rattle.leaps.proofs.channel_enum.all_leap.Lts as lts
-use Rattle.leaps.proofs.channel_enum.swept_leap.Reads as swept-leap-reads
-use Rattle.leaps.proofs.channel_enum.tone_leap.Reads as tone-leap-reads
 
 swept-leap-requires : tie.Need-swept-leap-requires
 swept-leap-requires c κs = search needs

@@ -1,10 +1,6 @@
 use borrow.Author.Needs.{needs}
 use Rattle.leaps.proofs.channel_enum.channel_leap.Statement.{statement}
 use Rattle.leaps.proofs.channel_enum.channel_leap.Tie as tie
-use Rattle.leaps.proofs.channel_enum.channel_leap.Reads as reads
-use Rattle.leaps.proofs.channel_enum.channel_leap.Lts as lts
-use Rattle.leaps.proofs.envelope.leap.Reads as envelope-leap-reads
-use Rattle.leaps.proofs.live.leap.Reads as live-leap-reads
 
 leap-requires : tie.Need-leap-requires
 leap-requires c κs = search needs

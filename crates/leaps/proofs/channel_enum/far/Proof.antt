@@ -4,12 +4,6 @@ use Rattle.leaps.specs.ChannelEnum.{voiceFar}
 use borrow.Author.Needs.{needs}
 use Rattle.leaps.proofs.channel_enum.far.Statement.{statement}
 use Rattle.leaps.proofs.channel_enum.far.Tie as tie
-use Rattle.leaps.proofs.channel_enum.far.Reads as reads
-use Rattle.leaps.proofs.channel_enum.far.Lts as lts
-use Rattle.leaps.proofs.channel_enum.kind_far.Reads as kind-far-reads
-use Rattle.leaps.proofs.distance.least.Reads as least-reads
-use Rattle.leaps.proofs.envelope.far.Reads as envelope-far-reads
-use Rattle.leaps.proofs.live.far.Reads as live-far-reads
 
 far-requires : tie.Need-far-requires
 far-requires c κs = search needs

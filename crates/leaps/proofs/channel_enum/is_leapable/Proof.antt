@@ -2,12 +2,6 @@ use Rattle.leaps.proofs.ChannelEnumLaws as laws
 use borrow.Author.Needs.{needs}
 use Rattle.leaps.proofs.channel_enum.is_leapable.Statement.{statement}
 use Rattle.leaps.proofs.channel_enum.is_leapable.Tie as tie
-use Rattle.leaps.proofs.channel_enum.is_leapable.Reads as reads
-use Rattle.leaps.proofs.channel_enum.is_leapable.Lts as lts
-use Rattle.leaps.proofs.channel_enum.far.Reads as far-reads
-use Rattle.leaps.proofs.channel_enum.is_pitchable.Reads as is-pitchable-reads
-use Rattle.voice.proofs.channel_enum.cycles_per_frequency_tick.Reads as cycles-per-frequency-tick-reads
-use Rattle.voice.proofs.channel_enum.frequency.Reads as frequency-reads
 
 frequency-requires : tie.Need-frequency-requires
 frequency-requires c κs = search needs

@@ -2,8 +2,6 @@ use Rattle.leaps.specs.ChannelEnum.{pitchable}
 use borrow.Author.Needs.{needs}
 use Rattle.leaps.proofs.channel_enum.is_pitchable.Statement.{statement}
 use Rattle.leaps.proofs.channel_enum.is_pitchable.Tie as tie
-use Rattle.leaps.proofs.channel_enum.is_pitchable.Reads as reads
-use Rattle.leaps.proofs.channel_enum.is_pitchable.Lts as lts
 
 returns : tie.Need-returns
 unfolding pitchable

@@ -3,9 +3,6 @@ use Rattle.leaps.specs.ChannelEnum.{kindFar}
 use borrow.Author.Needs.{needs}
 use Rattle.leaps.proofs.channel_enum.kind_far.Statement.{statement}
 use Rattle.leaps.proofs.channel_enum.kind_far.Tie as tie
-use Rattle.leaps.proofs.channel_enum.kind_far.Reads as reads
-use Rattle.leaps.proofs.channel_enum.kind_far.Lts as lts
-use Rattle.leaps.proofs.sweep_modulate.far.Reads as far-reads
 
 enum-told : tie.Need-enum-told
 enum-told c = search needs

@@ -3,10 +3,6 @@ use mathlib.Core.Path.{_∙_, sym}
 use borrow.Author.Needs.{needs}
 use Rattle.leaps.proofs.channel_enum.leap.Statement.{statement}
 use Rattle.leaps.proofs.channel_enum.leap.Tie as tie
-use Rattle.leaps.proofs.channel_enum.leap.Reads as reads
-use Rattle.leaps.proofs.channel_enum.leap.Lts as lts
-use Rattle.leaps.proofs.channel_enum.all_leap.Reads as all-leap-reads
-use Rattle.leaps.proofs.channel_enum.is_leapable.Reads as is-leapable-reads
 
 is-leapable-requires : tie.Need-is-leapable-requires
 is-leapable-requires c κs = search needs

@@ -1,11 +1,7 @@
-use mathlib.Core.Path.{_∙_, sym, ap}
 use Rattle.leaps.specs.ChannelEnum.{kindFar, kindLeap, sweptLeap}
 use borrow.Author.Needs.{needs}
 use Rattle.leaps.proofs.channel_enum.swept_leap.Statement.{statement}
 use Rattle.leaps.proofs.channel_enum.swept_leap.Tie as tie
-use Rattle.leaps.proofs.channel_enum.swept_leap.Reads as reads
-use Rattle.leaps.proofs.channel_enum.swept_leap.Lts as lts
-use Rattle.leaps.proofs.sweep_modulate.leap.Reads as leap-reads
 
 enum-told : tie.Need-enum-told
 enum-told c = search needs

@@ -2,13 +2,6 @@ use Rattle.leaps.proofs.ChannelEnumLaws as laws
 use borrow.Author.Needs.{needs}
 use Rattle.leaps.proofs.channel_enum.tone_leap.Statement.{statement}
 use Rattle.leaps.proofs.channel_enum.tone_leap.Tie as tie
-use Rattle.leaps.proofs.channel_enum.tone_leap.Reads as reads
-use Rattle.leaps.proofs.channel_enum.tone_leap.Lts as lts
-use Rattle.leaps.proofs.channel_enum.channel_leap.Reads as channel-leap-reads
-use Rattle.leaps.proofs.pitch.leap.Reads as leap-reads
-use Rattle.leaps.proofs.sample.on.Reads as on-reads
-use Rattle.voice.proofs.channel_enum.cycles_per_frequency_tick.Reads as cycles-per-frequency-tick-reads
-use Rattle.voice.proofs.channel_enum.frequency.Reads as frequency-reads
 
 channel-leap-requires : tie.Need-channel-leap-requires
 channel-leap-requires c κs = (c .before .before .pre .live, (c .before .before .pre .tick, c .before .before .pre .near))

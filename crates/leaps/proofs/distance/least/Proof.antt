@@ -1,9 +1,6 @@
 use Rattle.leaps.proofs.DistanceLaws as laws
-use borrow.Author.Needs.{needs}
 use Rattle.leaps.proofs.distance.least.Statement.{statement}
 use Rattle.leaps.proofs.distance.least.Tie as tie
-use Rattle.leaps.proofs.distance.least.Reads as reads
-use Rattle.leaps.proofs.distance.least.Lts as lts
 
 returns : tie.Need-returns
 returns c = laws.first-least _ _ (c .if1 .taken)

@@ -3,9 +3,6 @@ use Rattle.leaps.proofs.EnvelopeLaws as laws
 use borrow.Author.Needs.{needs}
 use Rattle.leaps.proofs.envelope.far.Statement.{statement}
 use Rattle.leaps.proofs.envelope.far.Tie as tie
-use Rattle.leaps.proofs.envelope.far.Reads as reads
-use Rattle.leaps.proofs.envelope.far.Lts as lts
-use Rattle.leaps.proofs.distance.short_of.Reads as short-of-reads
 
 sub-short-of : tie.Need-sub-short-of
 sub-short-of c = search needs

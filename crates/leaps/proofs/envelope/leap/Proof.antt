@@ -2,8 +2,6 @@ use Rattle.leaps.proofs.EnvelopeLaws as laws
 use borrow.Author.Needs.{needs}
 use Rattle.leaps.proofs.envelope.leap.Statement.{statement}
 use Rattle.leaps.proofs.envelope.leap.Tie as tie
-use Rattle.leaps.proofs.envelope.leap.Reads as reads
-use Rattle.leaps.proofs.envelope.leap.Lts as lts
 
 add-f : tie.Need-add-f
 add-f c = search needs

@@ -1,10 +1,7 @@
-use native.Mathlib.Omega.{arith}
 use Rattle.leaps.proofs.LiveLaws as laws
 use borrow.Author.Needs.{needs}
 use Rattle.leaps.proofs.live.leap.Statement.{statement}
 use Rattle.leaps.proofs.live.leap.Tie as tie
-use Rattle.leaps.proofs.live.leap.Reads as reads
-use Rattle.leaps.proofs.live.leap.Lts as lts
 
 add-m : tie.Need-add-m
 add-m c = search (needs, laws.far-ticks (c .before .before .before .args .l) (c .before .if1 .taken))

@@ -3,8 +3,6 @@ use Rattle.leaps.proofs.PitchLaws as laws
 use borrow.Author.Needs.{needs}
 use Rattle.leaps.proofs.pitch.counted.Statement.{statement}
 use Rattle.leaps.proofs.pitch.counted.Tie as tie
-use Rattle.leaps.proofs.pitch.counted.Reads as reads
-use Rattle.leaps.proofs.pitch.counted.Lts as lts
 
 add-tick : tie.Need-add-tick
 add-tick c = search (needs, laws.far-le (c .before .pre .0))

@@ -3,9 +3,6 @@ use Rattle.leaps.proofs.PitchLaws as laws
 use borrow.Author.Needs.{needs}
 use Rattle.leaps.proofs.pitch.far.Statement.{statement}
 use Rattle.leaps.proofs.pitch.far.Tie as tie
-use Rattle.leaps.proofs.pitch.far.Reads as reads
-use Rattle.leaps.proofs.pitch.far.Lts as lts
-use Rattle.leaps.proofs.distance.short_of.Reads as short-of-reads
 
 cast-short-of : tie.Need-cast-short-of
 cast-short-of c = search needs

@@ -1,16 +1,11 @@
 use native.Mathlib.Omega.{arith}
 use Rattle.leaps.specs.Pitch.{pitchAfter}
 use Rattle.leaps.proofs.PitchLaws as laws
-use mathlib.Core.Path.{_≡_, refl, _∙_, sym, ap}
+use mathlib.Core.Path.{_≡_, refl, _∙_, sym}
 use Prim.Native.Nat.{_≤_, _+_}
 use borrow.Author.Needs.{needs}
 use Rattle.leaps.proofs.pitch.leap.Statement.{statement}
 use Rattle.leaps.proofs.pitch.leap.Tie as tie
-use Rattle.leaps.proofs.pitch.leap.Reads as reads
-use Rattle.leaps.proofs.pitch.leap.Lts as lts
-use Rattle.leaps.proofs.pitch.counted.Reads as counted-reads
-use Rattle.leaps.proofs.pitch.far.Reads as far-reads
-use Rattle.leaps.proofs.pitch.restarted.Reads as restarted-reads
 
 abbrev Inv-loop : tie.InvT-loop
 Inv-loop frequency period n first q every left₀ samples₀ left samples = (samples + left ≤ n) × (laws.shifted samples₀ (pitchAfter period frequency left₀ q) ≡ laws.shifted samples (pitchAfter period frequency left q))

@@ -7,9 +7,6 @@ use Prim.Native.Nat.{_≤_, _-_}
 use borrow.Author.Needs.{needs}
 use Rattle.leaps.proofs.sample.clocked.Statement.{statement}
 use Rattle.leaps.proofs.sample.clocked.Tie as tie
-use Rattle.leaps.proofs.sample.clocked.Reads as reads
-use Rattle.leaps.proofs.sample.clocked.Lts as lts
-use Rattle.voice.proofs.channel_enum.increment_sample.Reads as increment-sample-reads
 
 abbrev Inv-loop : tie.InvT-loop
 Inv-loop n k₀ i₀ k i = (i ≤ n) × (k ≡ samplesOn i k₀)

@@ -4,10 +4,6 @@ use Rattle.leaps.proofs.SampleLaws as laws
 use borrow.Author.Needs.{needs}
 use Rattle.leaps.proofs.sample.on.Statement.{statement}
 use Rattle.leaps.proofs.sample.on.Tie as tie
-use Rattle.leaps.proofs.sample.on.Reads as reads
-use Rattle.leaps.proofs.sample.on.Lts as lts
-use Rattle.leaps.proofs.sample.clocked.Reads as clocked-reads
-use Rattle.leaps.proofs.sample.position_on.Reads as position-on-reads
 
 enum-known-kind : tie.Need-enum-known-kind
 enum-known-kind c = search needs

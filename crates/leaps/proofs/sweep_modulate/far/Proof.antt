@@ -3,9 +3,6 @@ use mathlib.Core.Path.{_∙_}
 use borrow.Author.Needs.{needs}
 use Rattle.leaps.proofs.sweep_modulate.far.Statement.{statement}
 use Rattle.leaps.proofs.sweep_modulate.far.Tie as tie
-use Rattle.leaps.proofs.sweep_modulate.far.Reads as reads
-use Rattle.leaps.proofs.sweep_modulate.far.Lts as lts
-use Rattle.leaps.proofs.distance.short_of.Reads as short-of-reads
 
 sub-short-of : tie.Need-sub-short-of
 sub-short-of c = search needs

@@ -1,10 +1,7 @@
-use native.Mathlib.Omega.{arith}
 use Rattle.leaps.proofs.SweepModulateLaws as laws
 use borrow.Author.Needs.{needs}
 use Rattle.leaps.proofs.sweep_modulate.leap.Statement.{statement}
 use Rattle.leaps.proofs.sweep_modulate.leap.Tie as tie
-use Rattle.leaps.proofs.sweep_modulate.leap.Reads as reads
-use Rattle.leaps.proofs.sweep_modulate.leap.Lts as lts
 
 add-t : tie.Need-add-t
 add-t c = search (needs, laws.far-le (c .before .args .s))

@@ -8,12 +8,6 @@ use Prim.Native.Nat.{ℕ, _≤_, _-_}
 use borrow.Author.Needs.{needs}
 use Rattle.quick.proofs.voices.cycles.Statement.{statement}
 use Rattle.quick.proofs.voices.cycles.Tie as tie
-use Rattle.quick.proofs.voices.cycles.Reads as reads
-use Rattle.quick.proofs.voices.cycles.Lts as lts
-use Rattle.leaps.proofs.distance.least.Reads as least-reads
-use Rattle.quick.proofs.voices.far.Reads as far-reads
-use Rattle.quick.proofs.voices.leap.Reads as leap-reads
-use Rattle.six.proofs.core.cycles.Reads as cycles-reads
 
 abbrev Inv-loop : tie.InvT-loop
 Inv-loop modulation n out₀ i₀ out i = (i ≤ n) × (out ≡ voicesAfterAll modulation i out₀)

@@ -8,10 +8,6 @@ use Prim.Native.Nat.{_≤_, _-_}
 use borrow.Author.Needs.{needs}
 use Rattle.quick.proofs.voices.far.Statement.{statement}
 use Rattle.quick.proofs.voices.far.Tie as tie
-use Rattle.quick.proofs.voices.far.Reads as reads
-use Rattle.quick.proofs.voices.far.Lts as lts
-use Rattle.leaps.proofs.channel_enum.far.Reads as far-reads
-use Rattle.leaps.proofs.distance.least.Reads as least-reads
 
 abbrev Inv-loop : tie.InvT-loop
 Inv-loop voices nearest₀ i₀ nearest i = (i ≤ 6) × (voicesFar voices ≡ farFrom nearest (drop i voices))

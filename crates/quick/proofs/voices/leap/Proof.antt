@@ -1,15 +1,12 @@
 use Rattle.leaps.specs.ChannelEnum.{leapOf}
 use Rattle.six.proofs.Upto.{upTo, upTo-none, upTo-more, upTo-all}
 use mathlib.Core.Path.{_≡_}
-use lib.ListN.{length, drop}
+use lib.ListN.{length}
 use native.Mathlib.Omega.{arith}
 use Prim.Native.Nat.{_≤_, _-_}
 use borrow.Author.Needs.{needs}
 use Rattle.quick.proofs.voices.leap.Statement.{statement}
 use Rattle.quick.proofs.voices.leap.Tie as tie
-use Rattle.quick.proofs.voices.leap.Reads as reads
-use Rattle.quick.proofs.voices.leap.Lts as lts
-use Rattle.leaps.proofs.channel_enum.leap.Reads as leap-reads
 
 abbrev Inv-loop : tie.InvT-loop
 Inv-loop n out₀ i₀ out i = (i ≤ 6) × (out ≡ upTo (leapOf n) i out₀)
