@@ -1,5 +1,6 @@
 pub mod CoreLaws
 pub mod RangeLaws
 pub mod RunLaws
+pub mod StepLaws
 pub mod MutesLaws
 pub mod Figures
