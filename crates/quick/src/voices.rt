@@ -10,6 +10,9 @@ ghost use Rattle.leaps.specs.ChannelEnum.{leapOf};
 ghost use Rattle.six.specs.Core.{voicesAfterAll, voicesInRange};
 ghost use Rattle.quick.specs.Voices.{voicesFar};
 
+// Fewer cycles than these cost less one by one (docs/PERFORMANCE.md).
+const FEW: u32 = 4;
+
 // How many cycles all six can go at once.
 fn far(voices: [Voice; 6]) -> u32
     ensures { λ r. ⌜ r ≡ voicesFar voices ⌝ }
@@ -42,6 +45,9 @@ pub(crate) fn cycles(voices: [Voice; 6], modulation: &[i8; 32], n: u32) -> [Voic
     requires { ⌜ voicesInRange voices ≡ true ⌝ }
     ensures { λ r. ⌜ r ≡ voicesAfterAll (now (modulation .entry)) n voices ⌝ }
 {
+    if n < FEW {
+        return six::core::cycles(voices, modulation, n);
+    }
     let mut out = voices;
     let mut i = 0;
     while i < n {

@@ -39,9 +39,10 @@ module _ {u : Vsu} {n : ℕ} {before : List ℤ} (h : inRange u ≡ true) (r : f
 
   pub ends : n ≤ i → (_≡_ {A = Vsu} (record { voices = voices; output = output; waves = u .waves; modulation = u .modulation; mutes = u .mutes }) (run n u)) × (out ≡ sides (frames n u) ++ drop (framesDue u n * 2) before)
   ends l =
-      let all : i ≡ n = omega (arith, s .within) in
-      (laws.run-is i u (s .six) (s .counter) ∙ ap (λ (k : ℕ). run k u) all,
-      s .buffer ∙ ap (λ (k : ℕ). sides (frames i u) ++ drop k before) (laws.front-at u h i (s .place)) ∙ ap (λ (k : ℕ). sides (frames k u) ++ drop (framesDue u k * 2) before) all)
+      let all : i ≡ n = omega (arith, s .within) in (
+        laws.run-is i u (s .six) (s .counter) ∙ ap (λ (k : ℕ). run k u) all,
+        s .buffer ∙ ap (λ (k : ℕ). sides (frames i u) ++ drop k before) (laws.front-at u h i (s .place)) ∙ ap (λ (k : ℕ). sides (frames k u) ++ drop (framesDue u k * 2) before) all,
+      )
 
   -- k cycles more, up to the next frame at most
   module _ {k : ℕ} {next : List Voice} (l : k ≤ n - i) (q : next ≡ voicesAfterAll (u .modulation) k voices) where
