@@ -22,20 +22,16 @@ module _ (u : Vsu) (m : ℕ) where
   unfolding cycle
   cycle-mutes = refl
 
-  either : (t : Bool) (v : Vsu) → cond t (withMutes u m) (withMutes v m) ≡ withMutes (cond t u v) m
-  either true v = refl
-  either false v = refl
-
-  or : (t : Bool) (v : Vsu) → cond t (withMutes v m) (withMutes u m) ≡ withMutes (cond t v u) m
-  or true v = refl
-  or false v = refl
+  either : (t : Bool) (v w : Vsu) → cond t (withMutes v m) (withMutes w m) ≡ withMutes (cond t v w) m
+  either true v w = refl
+  either false v w = refl
 
   pub write-to-mutes : (r : Register) (b : ℕ) → writeTo r b (withMutes u m) ≡ withMutes (writeTo r b u) m
   unfolding writeTo
-  write-to-mutes (registers.Wave at) b = either (anyPlays (u .voices)) _
-  write-to-mutes (registers.Modulation at) b = either (plays (voiceAt 4 (u .voices))) _
+  write-to-mutes (registers.Wave at) b = either (anyPlays (u .voices)) u _
+  write-to-mutes (registers.Modulation at) b = either (plays (voiceAt 4 (u .voices))) u _
   write-to-mutes (registers.Channel k offset) b = refl
-  write-to-mutes registers.Stop b = or (bit 0 b) _
+  write-to-mutes registers.Stop b = either (bit 0 b) _ u
   write-to-mutes registers.Nothing b = refl
 
   pub write-mutes : (a b : ℕ) → write a b (withMutes u m) ≡ withMutes (write a b u) m
