@@ -21,8 +21,9 @@ pub(crate) fn leap(l: Live, n: u32) -> Live
     ensures { λ r. ⌜ r ≡ liveLeap n l ⌝ }
 {
     let mut m = l;
-    if l.playing & l.auto {
-        m.tick = l.tick + n;
+    if !(l.playing & l.auto) {
+        return m;
     }
+    m.tick = l.tick + n;
     m
 }
