@@ -5,11 +5,11 @@ use native.Mathlib.Omega.{arith}
 use Rattle.laws.proofs.Cases.{ways}
 use Rattle.deck.proofs.UnbrokenLaws.{Bytes, state-keeps}
 use Rattle.deck.specs.Unbroken.{apply_at, frames_in, frames_of, state_at}
-use Rattle.log.proofs.EncoderLaws.{Fits, Laid, Sound, log-accepted}
-use Rattle.log.specs.Encoder.{log_of}
-use Rattle.log.specs.Log.{Layout, check_of}
-use Rattle.log.specs.declared.Checked.TheVariants as checked
-use Rattle.log.specs.declared.Write.{Write}
+use Rattle.register_log.proofs.EncoderLaws.{Fits, Laid, Sound, log-accepted}
+use Rattle.register_log.specs.Encoder.{log_of}
+use Rattle.register_log.specs.Log.{Layout, check_of}
+use Rattle.register_log.specs.declared.Checked.TheVariants as checked
+use Rattle.register_log.specs.declared.Write.{Write}
 use Rattle.vsu.proofs.RangeLaws.{write_keeps}
 use Rattle.vsu.specs.Core.{cycle, in_range, made, with_mutes, write}
 use Rattle.vsu.specs.declared.core.Frame.{Frame}

@@ -1,4 +1,6 @@
 // When two register writes that are due at one cycle may be exchanged, for the arranger program.
+#![tactic(auto)]
+
 ghost use Rattle.core.specs.Prelude.{◌≡◌, ◌+◌, ◌*◌, if◌then◌else◌, nat_lt};
 ghost use Rattle.common.specs.Bits.{bits};
 ghost use Rattle.arranger.specs.Arranger.{kept, beside_wave, beside_modulation, beside_channel, beside_stop, may_exchange, dropped, lead_to, lead_of};
@@ -9,7 +11,7 @@ use vsu::core;
 use vsu::core::Register;
 
 // What leads from power-on to a state on which the order shows: nothing; a byte to an address; that, and then 0x80 to `start`.
-#[derive(Drop)]
+#[derive(Clone, Copy)]
 pub enum Lead {
     PowerOn,
     Filled { address: u32, byte: u8 },

@@ -2,7 +2,7 @@
 ghost use Rattle.std.specs.Prelude.{◌≤◌, length};
 
 use libc::{STDIN_FILENO, STDOUT_FILENO};
-use log::Checked;
+use register_log::Checked;
 
 fn word(text: &[u8], n: u32) {
     io::write_all(STDOUT_FILENO, text);
@@ -40,10 +40,10 @@ fn checks(bytes: &mut [u8]) -> u32 {
         if end > 1 {
             bytes[end - 2] = (i % 256) as u8;
         }
-        sum = std::num::wrapping_add_u32(sum, code(log::check_log(bytes)));
+        sum = std::num::wrapping_add_u32(sum, code(register_log::check_log(bytes)));
         i += 1;
     }
-    told(log::check_log(bytes));
+    told(register_log::check_log(bytes));
     sum
 }
 

@@ -4,6 +4,8 @@
 // a count every frequency is 2047, on `noise` noise's alone, on `quiet` nothing plays, on `ticks` every envelope and the sweep have an interval
 // of one tick. On `cycles` and a count every frequency is 2047, by the cycle engine. On a log of edition 1 it checks that ten thousand
 // times; on `adds` and a count it fills a recorder's buffer so often, and prints a sum.
+#![tactic(auto)]
+
 mod adds;
 mod logs;
 
@@ -12,7 +14,7 @@ use report::sum::of_frames;
 use vsu::core;
 use vsu::core::{Ran, Vsu};
 
-#[derive(Drop)]
+#[derive(Clone, Copy)]
 struct Timed {
     unit: Vsu,
     sum: u32,

@@ -1,14 +1,16 @@
 // Lists the log on standard input with its six stems: a first line, then a line for each frame, with the mix and each voice alone.
+#![tactic(auto)]
+
 mod output;
 mod spans;
 
 use libc::STDIN_FILENO;
-use log::Checked;
 use refusal::Refusal;
+use register_log::Checked;
 use report::print;
 
 fn list(log: &[u8]) -> bool {
-    let c = log::check_log(log);
+    let c = register_log::check_log(log);
     match c {
         Checked::Log { count, cycles } => {
             output::heading(log, count, cycles) && spans::list(log, cycles)

@@ -12,7 +12,7 @@ const FRAMES: u32 = 256;
 const SPAN: u32 = 480 * FRAMES;
 
 // The player, whether all of its frames are listed, and the hundredths that were told last.
-#[derive(Drop)]
+#[derive(Clone, Copy)]
 struct Listing {
     player: Player,
     written: bool,

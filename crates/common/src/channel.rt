@@ -5,7 +5,7 @@ ghost use Rattle.common.specs.Channel.{play_off, write_interval, write_volumes, 
 use crate::bits;
 use crate::constants::{ENVELOPE_CYCLE_COUNT, SOUND_LIVE_INTERVAL_CYCLE_COUNT};
 
-#[derive(Drop)]
+#[derive(Clone, Copy)]
 pub struct Live {
     pub tick: u32,
     pub interval: u8,
@@ -14,14 +14,14 @@ pub struct Live {
     pub playing: bool,
 }
 
-#[derive(Drop)]
+#[derive(Clone, Copy)]
 pub struct Pitch {
     pub tick: u32,
     pub frequency: u16,
     pub counter: u16,
 }
 
-#[derive(Drop)]
+#[derive(Clone, Copy)]
 pub struct Envelope {
     pub tick: u32,
     pub interval: u8,
@@ -35,7 +35,7 @@ pub struct Envelope {
 
 // In this order no step leaves eight bytes alone beside those that it moves: such eight the compiler would carry as one number, taken apart
 // and put together in each cycle (docs/PERFORMANCE.md).
-#[derive(Drop)]
+#[derive(Clone, Copy)]
 pub struct Channel {
     pub envelope: Envelope,
     pub pitch: Pitch,
@@ -45,7 +45,7 @@ pub struct Channel {
 }
 
 // A pitch after a step, and whether the next sample is due.
-#[derive(Drop)]
+#[derive(Clone, Copy)]
 pub struct Pitched {
     pub pitch: Pitch,
     pub due: bool,

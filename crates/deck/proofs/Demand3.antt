@@ -14,10 +14,10 @@ use lib.Seq.{drop_at, drop-drop, get_or-drop, length-sets, sets, take_at}
 use Rattle.laws.proofs.Cases.{each, ways}
 use Rattle.little.specs.Little.{bytes}
 use Rattle.little.proofs.LittleLaws.{bytes-length, front_below, front_bytes, sets-after, sets-before, sets-there}
-use Rattle.log.specs.Log.{check_of, count_of, due_before, edition1, log_answer}
-use Rattle.log.specs.declared.Checked.TheVariants as checked
-use Rattle.log.specs.declared.Write.{Write}
-use Rattle.log.proofs.AcceptedLaws.{accepted, writes-length}
+use Rattle.register_log.specs.Log.{check_of, count_of, due_before, edition1, log_answer}
+use Rattle.register_log.specs.declared.Checked.TheVariants as checked
+use Rattle.register_log.specs.declared.Write.{Write}
+use Rattle.register_log.proofs.AcceptedLaws.{accepted, writes-length}
 use Rattle.image.specs.Image.{image_of, read_answer}
 use Rattle.table.specs.Table.{newest}
 use Rattle.image.proofs.RoundTrip.{image-420, reads-back}

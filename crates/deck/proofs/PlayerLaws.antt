@@ -9,7 +9,7 @@ use Rattle.image.specs.Image.{image_of, read_answer}
 use Rattle.image.proofs.CallLaws.{read_answer_lem}
 use Rattle.image.proofs.RoundTrip.{not-9, reads-back}
 use Rattle.laws.proofs.Cases.{each}
-use Rattle.log.specs.Log.{due_before, edition1, log_answer}
+use Rattle.register_log.specs.Log.{due_before, edition1, log_answer}
 use Rattle.marks.specs.Marks.{is_set}
 use Rattle.refusal.proofs.RefusalLaws.{both-on, passed, was-sound}
 use Rattle.refusal.specs.Refusal.{answer_number}

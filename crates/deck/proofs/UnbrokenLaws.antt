@@ -7,8 +7,8 @@ use native.Mathlib.Omega.{arith}
 use borrow.Author.Tests.{eq-eqb, eqb-false, eqb-true, ne_eqb, le-ltb, lt-ltb, ltb-false, ltb-true}
 use lib.ListN.{length-append}
 use Rattle.laws.proofs.Cases.{ways}
-use Rattle.log.specs.Log.{due_before, edition1, entry_place, write_at, writes_from}
-use Rattle.log.specs.declared.Write.{Write}
+use Rattle.register_log.specs.Log.{due_before, edition1, entry_place, write_at, writes_from}
+use Rattle.register_log.specs.declared.Write.{Write}
 use Rattle.vsu.proofs.MutesLaws.{cycle-mutes, mutes-keep, write-mutes}
 use Rattle.vsu.proofs.RangeLaws.{cycle-keeps, power-on-in-range, small_at, write_keeps}
 use Rattle.vsu.proofs.RunLaws.{frames-length, output-at}

@@ -3,8 +3,8 @@
 -- bits, which are those of the last mute call. Each accepted play yields exactly that run's frames in its span, with the present
 -- mutes, and counts that run's entries in it by what they say.
 use Rattle.core.specs.Prelude.{◌≡◌, ℕ, ◌+◌, ◌-◌, ◌*◌, ◌/◌, cond, not, List, [], ◌∷◌, ◌++◌, length, drop, ℤ, ◌==◌, nat_le, nat_lt}
-use Rattle.log.specs.Log.{due_before}
-use Rattle.log.specs.declared.Write.{Write}
+use Rattle.register_log.specs.Log.{due_before}
+use Rattle.register_log.specs.declared.Write.{Write}
 use Rattle.refusal.specs.Refusal.{fault, ◌then◌}
 use Rattle.refusal.specs.declared.Answer.{Answer}
 use Rattle.refusal.specs.declared.Answer.TheVariants.{Accepted, Refused}

@@ -3,9 +3,9 @@
 use Rattle.core.specs.Prelude.{ℕ, ◌+◌, ◌-◌, ◌*◌, Bool, cond, not, ◌&&◌, List, ◌++◌, length, take, drop, ℤ, ◌==◌, nat_le, nat_lt}
 use Rattle.std.proofs.lemmas.List.Edits.{sets}
 use Rattle.little.specs.Little.{bytes, number}
-use Rattle.log.specs.Log.{checked_by, count_of, cycles_of, due_before, edition1, log_answer, writes_of}
-use Rattle.log.specs.declared.Checked.{Checked}
-use Rattle.log.specs.declared.Write.{Write}
+use Rattle.register_log.specs.Log.{checked_by, count_of, cycles_of, due_before, edition1, log_answer, writes_of}
+use Rattle.register_log.specs.declared.Checked.{Checked}
+use Rattle.register_log.specs.declared.Write.{Write}
 use Rattle.image.specs.Image.{image_of, read_answer, read_of}
 use Rattle.marks.specs.Marks.{is_set, lowest_free, with_mark, without_mark}
 use Rattle.refusal.specs.Refusal.{fault, ◌then◌}

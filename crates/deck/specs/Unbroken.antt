@@ -1,7 +1,7 @@
 -- The run of demand 3, over writes: "At cycle T, exactly the entries due before T have been applied; one due at T goes in before cycle
 -- T + 1 runs."
 use Rattle.core.specs.Prelude.{ℕ, zero, suc, ◌+◌, ◌-◌, Bool, true, false, cond, List, [], ◌∷◌, ◌++◌, ◌==◌}
-use Rattle.log.specs.declared.Write.{Write}
+use Rattle.register_log.specs.declared.Write.{Write}
 use Rattle.vsu.specs.Core.{cycle, made, power_on, says, with_mutes, write}
 use Rattle.vsu.specs.declared.core.Frame.{Frame}
 use Rattle.vsu.specs.declared.core.Said.{Said}

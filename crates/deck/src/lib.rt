@@ -1,4 +1,6 @@
 // The player's record, and what its calls hand back. No code: by document 01 what each call makes of them, and the theorem of demand 3.
+#![tactic(auto)]
+
 use refusal::Answer;
 use vsu::core::Vsu;
 
@@ -11,7 +13,7 @@ pub const IMAGE_PLACE: usize = 8;
 
 pub const MEMORY_SIZE: usize = 6848;
 
-#[derive(Drop)]
+#[derive(Clone, Copy)]
 pub struct Player {
     pub unit: Vsu,
     pub cycle: u32,
@@ -20,14 +22,14 @@ pub struct Player {
 }
 
 // The record after a call, and how it ended.
-#[derive(Drop)]
+#[derive(Clone, Copy)]
 pub struct Turn {
     pub player: Player,
     pub answer: Answer,
 }
 
 // How many entries were taken, were held off by playing, had no register.
-#[derive(Drop)]
+#[derive(Clone, Copy)]
 pub struct Counts {
     pub taken: u32,
     pub held: u32,
@@ -35,7 +37,7 @@ pub struct Counts {
 }
 
 // As a turn, of a play, with the number of its frames and what the entries of its span said.
-#[derive(Drop)]
+#[derive(Clone, Copy)]
 pub struct Played {
     pub player: Player,
     pub frames: u32,

@@ -7,7 +7,7 @@ use report::{sum, text};
 
 // What a line tells in numbers: the record's, and a play's frames and what became of its entries, the slot of a mark that is set, the sum
 // of what was asked for.
-#[derive(Drop)]
+#[derive(Clone, Copy)]
 pub(crate) struct Numbers {
     cycle: u32,
     applied: u32,

@@ -2,7 +2,7 @@
 use check::same;
 use lines::words::{Number, behind};
 
-#[derive(Drop)]
+#[derive(Clone, Copy)]
 pub(crate) enum Call {
     Play(u32),
     Seek(u32),

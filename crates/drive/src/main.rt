@@ -1,4 +1,6 @@
 // `drive FILE`: a console over the player. It opens the log in the file; then each line of standard input is a call, and gets a line.
+#![tactic(auto)]
+
 mod answer;
 mod call;
 mod console;
@@ -7,15 +9,15 @@ mod output;
 ghost use Rattle.std.specs.Prelude.{◌≤◌, length};
 
 use libc::STDERR_FILENO;
-use log::Checked;
 use refusal::Refusal;
+use register_log::Checked;
 use report::text;
 
 // The most bytes of a log's file.
 const MOST: usize = 1_048_576;
 
 // How many bytes came, and whether a read failed.
-#[derive(Drop)]
+#[derive(Clone, Copy)]
 struct Taken {
     size: usize,
     failed: bool,
@@ -68,7 +70,7 @@ fn opened(count: u32, cycles: u32) {
 }
 
 fn drive(log: &[u8]) {
-    let c = log::check_log(log);
+    let c = register_log::check_log(log);
     match c {
         Checked::Log { count, cycles } => {
             opened(count, cycles);

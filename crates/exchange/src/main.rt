@@ -1,5 +1,7 @@
 // May the two writes be exchanged? Answers it of each line of standard input, a pair of register writes due at one cycle: yes, or no and a
 // state on which their order shows.
+#![tactic(auto)]
+
 mod console;
 mod output;
 mod pair;

@@ -3,7 +3,7 @@ use lines::words;
 use lines::words::Number;
 
 // A byte to an address, and a value to another.
-#[derive(Drop)]
+#[derive(Clone, Copy)]
 pub(crate) struct Pair {
     pub(crate) address: u32,
     pub(crate) byte: u8,
@@ -11,7 +11,7 @@ pub(crate) struct Pair {
     pub(crate) value: u8,
 }
 
-#[derive(Drop)]
+#[derive(Clone, Copy)]
 pub(crate) enum Found {
     Writes(Pair),
     Not,

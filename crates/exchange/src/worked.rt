@@ -4,7 +4,7 @@ use arranger::Lead;
 use vsu::core;
 
 // The lowest byte that differs: its number, and its values in the order as given and in the other.
-#[derive(Drop)]
+#[derive(Clone, Copy)]
 pub(crate) enum Difference {
     At { at: u32, given: u8, exchanged: u8 },
     // Never, by the theorem and since an image reads back as its state; not proved here.

@@ -1,4 +1,6 @@
 // A state as the values of its fields, and back.
+#![tactic(auto)]
+
 ghost use Rattle.core.specs.Prelude.{◌≡◌, ◌+◌, ◌*◌, ◌<◌, ◌≤◌, map, length, take, drop, slice_index};
 ghost use Rattle.std.proofs.lemmas.List.Edits.{sets};
 ghost use Rattle.table.specs.Table.{channel_fields, channel_from, modulation_from, newest, sweep_from, waves_from};

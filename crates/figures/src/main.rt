@@ -1,4 +1,6 @@
 // Runs document 01's "Run by program" figures and the refusals of the unit's calls, and prints what each gave.
+#![tactic(auto)]
+
 use libc::STDOUT_FILENO;
 use refusal::Answer;
 use report::print;

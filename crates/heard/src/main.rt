@@ -1,15 +1,17 @@
 // Was the write heard? Tells it of the log on standard input: a line for each entry that was held off by playing or had no register, and
 // last how many were what.
+#![tactic(auto)]
+
 mod output;
 mod walk;
 
 use libc::STDIN_FILENO;
-use log::Checked;
 use refusal::Refusal;
+use register_log::Checked;
 use report::print;
 
 fn hear(log: &[u8]) -> bool {
-    let c = log::check_log(log);
+    let c = register_log::check_log(log);
     match c {
         Checked::Log { count, cycles } => walk::through(log, count, cycles),
         Checked::Refused(why) => output::refused(why),

@@ -3,7 +3,7 @@ ghost use Rattle.std.specs.Prelude.{◌<◌, ◌≤◌};
 
 use crate::output;
 use libc::STDOUT_FILENO;
-use log::Write;
+use register_log::Write;
 use report::progress;
 use std::num;
 use vsu::core;
@@ -13,7 +13,7 @@ use vsu::core::Said;
 const PIECE: u32 = 10_000_000;
 
 // How many entries were taken, were held off by playing, had no register; and whether all that was to be told of them is written.
-#[derive(Drop)]
+#[derive(Clone, Copy)]
 struct Tally {
     taken: u32,
     held: u32,
@@ -70,7 +70,7 @@ pub(crate) fn through(log: &[u8], count: u32, cycles: u32) -> bool {
     let mut told = 100;
     let mut i: u32 = 0;
     while i < count && h.written {
-        let w = log::write_at(log, i);
+        let w = register_log::write_at(log, i);
         let due = w.due;
         if cycle < due {
             let n = piece_of(due - cycle);

@@ -1,4 +1,6 @@
 // The state image, 420 bytes: the fields' values, by the table.
+#![tactic(auto)]
+
 ghost use Rattle.core.specs.Prelude.{◌≡◌, ◌-◌, [], ◌++◌, length, replicate};
 ghost use Rattle.std.proofs.lemmas.List.Edits.{sets};
 ghost use Rattle.refusal.specs.Refusal.{Tells};
@@ -11,7 +13,7 @@ use vsu::core;
 use vsu::core::Vsu;
 
 // The state that an image holds, and how the reading ended.
-#[derive(Drop)]
+#[derive(Clone, Copy)]
 pub struct Loaded {
     pub state: Vsu,
     pub answer: Answer,

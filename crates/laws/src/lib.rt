@@ -1,1 +1,2 @@
 // No code: laws on tests and choices that several crates' proofs cite.
+#![tactic(auto)]

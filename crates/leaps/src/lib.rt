@@ -1,4 +1,6 @@
 // How far each part of a voice is from its next change, and what it is some cycles on.
+#![tactic(auto)]
+
 pub mod channel_enum;
 pub mod distance;
 mod envelope;

@@ -7,7 +7,7 @@ use crate::distance::short_of;
 use common::channel::Pitch;
 
 // A pitch after some cycles, and how many samples they brought.
-#[derive(Drop)]
+#[derive(Clone, Copy)]
 pub struct Sampled {
     pub pitch: Pitch,
     pub samples: u32,

@@ -4,7 +4,7 @@ ghost use Rattle.lines.specs.Input.{new_input, filled_of, begun_of, ended_of, mo
 
 // Where the input stands: the next of the bytes that were read, how many were, how many are kept of a line, whether the line has ended,
 // and whether more may come.
-#[derive(Drop)]
+#[derive(Clone, Copy)]
 pub struct Input {
     pub at: usize,
     pub size: usize,

@@ -2,7 +2,7 @@
 ghost use Rattle.std.specs.Prelude.{◌≡◌, true, ◌≤◌, drop, length};
 ghost use Rattle.lines.specs.Words.{Begins, space_of, digit_of, digits_of, decimal_of, marks_hex, number_of};
 
-#[derive(Drop)]
+#[derive(Clone, Copy)]
 pub enum Number {
     Value(u32),
     Not,

@@ -1,15 +1,17 @@
 // Lists the log on standard input as document 01's "The listing" says: its first line, then a line for each frame. The first line tells of
 // the whole log, so the log is played twice.
+#![tactic(auto)]
+
 mod sorts;
 
 ghost use Rattle.std.specs.Prelude.{◌≡◌};
-ghost use Rattle.log.specs.Log.{entries_in};
+ghost use Rattle.register_log.specs.Log.{entries_in};
 
 use crate::sorts::Sorts;
 use deck::Player;
 use libc::{STDIN_FILENO, STDOUT_FILENO};
-use log::{Checked, Read, reader};
 use refusal::Refusal;
+use register_log::{Checked, Read, reader};
 use report::{print, progress, sum, text};
 
 // A log of any length is listed in plays of at most this many frames, and their cycles.
@@ -18,7 +20,7 @@ const FRAMES: u32 = 1024;
 const SPAN: u32 = 480 * FRAMES;
 
 // The player, whether all that it played is listed, and the hundredths that were told last.
-#[derive(Drop)]
+#[derive(Clone, Copy)]
 struct Listing {
     player: Player,
     written: bool,
@@ -150,7 +152,7 @@ fn accepted(log: &[u8], count: u32, cycles: u32) -> bool {
 }
 
 fn list(log: &[u8]) -> bool {
-    let c = log::check_log(log);
+    let c = register_log::check_log(log);
     match c {
         Checked::Log { count: _, cycles } => accepted(log, entries(log, c), cycles),
         Checked::Refused(why) => refused(why),

@@ -4,7 +4,7 @@ use deck::Counts;
 use std::num;
 
 // How many entries were held off by playing, how many had no register, and the hundredths that were told last.
-#[derive(Drop)]
+#[derive(Clone, Copy)]
 pub(crate) struct Sorts {
     pub(crate) held: u32,
     pub(crate) none: u32,

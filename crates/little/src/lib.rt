@@ -1,11 +1,13 @@
 // Little-endian numbers in a slice of bytes. A byte past the end reads 0 and takes nothing, so that no reader or writer has a
 // precondition.
+#![tactic(auto)]
+
 ghost use Rattle.std.specs.Prelude.{◌≡◌, ◌%◌, get_or, set};
 ghost use Rattle.std.proofs.lemmas.List.Edits.{sets};
 ghost use Rattle.little.specs.Little.{bytes, number, size_of};
 
 // How many bytes a number has.
-#[derive(Drop)]
+#[derive(Clone, Copy)]
 pub enum Width {
     U8,
     U16,

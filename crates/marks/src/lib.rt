@@ -1,4 +1,6 @@
 // The sixteen mark bits of a record.
+#![tactic(auto)]
+
 ghost use Rattle.std.specs.Prelude.{◌≡◌};
 ghost use Rattle.marks.specs.Marks.{is_set, marks_set, lowest_free, with_mark, without_mark};
 

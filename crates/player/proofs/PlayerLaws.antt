@@ -19,10 +19,10 @@ use Rattle.deck.specs.declared.Player.{Player}
 use Rattle.deck.specs.declared.Turn.{Turn}
 use Rattle.little.proofs.LittleLaws.{bytes-length, front_below, sets-append}
 use Rattle.little.specs.Little.{bytes, number}
-use Rattle.log.proofs.AcceptedLaws.{checked-log}
-use Rattle.log.specs.Log.{check_of, checked_answer, count_of, due_before, edition1, log_answer, writes_from}
-use Rattle.log.specs.declared.Checked.{Checked}
-use Rattle.log.specs.declared.Checked.TheVariants as checked
+use Rattle.register_log.proofs.AcceptedLaws.{checked-log}
+use Rattle.register_log.specs.Log.{check_of, checked_answer, count_of, due_before, edition1, log_answer, writes_from}
+use Rattle.register_log.specs.declared.Checked.{Checked}
+use Rattle.register_log.specs.declared.Checked.TheVariants as checked
 use Rattle.image.proofs.RoundTrip.{image-420}
 use Rattle.image.specs.Image.{image_of, read_answer, read_of, written_of}
 use Rattle.image.proofs.CallLaws.{read_answer_lem, written}

@@ -4,10 +4,10 @@ use mathlib.Core.Path.{refl, sym, ap, ◌∙◌}
 use mathlib.Core.Bool.{true≢false}
 use borrow.Author.Tests.{le-leb, lt-leb, ltb-true, ltb-false}
 use Rattle.deck.specs.Player.{length_in, misplaced, writes_in}
-use Rattle.log.proofs.AcceptedLaws.{accepted, stands}
-use Rattle.log.specs.Log.{check_of, checked_answer, checked_by, count_of, due_before, edition1, log_answer, stands_at}
-use Rattle.log.specs.declared.Checked.{Checked}
-use Rattle.log.specs.declared.Checked.TheVariants as checked
+use Rattle.register_log.proofs.AcceptedLaws.{accepted, stands}
+use Rattle.register_log.specs.Log.{check_of, checked_answer, checked_by, count_of, due_before, edition1, log_answer, stands_at}
+use Rattle.register_log.specs.declared.Checked.{Checked}
+use Rattle.register_log.specs.declared.Checked.TheVariants as checked
 use Rattle.refusal.specs.Refusal.{fault, ◌then◌}
 use Rattle.refusal.specs.declared.Answer.{Answer}
 use Rattle.refusal.specs.declared.Answer.TheVariants.{Accepted, Refused}

@@ -10,9 +10,9 @@ use borrow.Author.Tests.{lt-ltb, le-ltb, ne_eqb, ltb-true, ltb-false}
 use lib.ListN.{length-append, length-drop, drop_of_length-le}
 use lib.Seq.{drop_at, drop-cons, drop-drop, take_all, take_at}
 use Rattle.laws.proofs.Cases.{each, ways}
-use Rattle.log.proofs.AcceptedLaws.{Accepted, accepted, due-rises, writes_at, writes-length}
-use Rattle.log.specs.Log.{due_at, due_before, edition1, write_at, writes_from}
-use Rattle.log.specs.declared.Write.{Write}
+use Rattle.register_log.proofs.AcceptedLaws.{Accepted, accepted, due-rises, writes_at, writes-length}
+use Rattle.register_log.specs.Log.{due_at, due_before, edition1, write_at, writes_from}
+use Rattle.register_log.specs.declared.Write.{Write}
 use Rattle.vsu.proofs.RangeLaws.{range-facts, run-keeps, write_keeps}
 use Rattle.vsu.proofs.CoreLaws.{advance-gives, run-gives, write-gives}
 use Rattle.vsu.proofs.RunLaws.{frames-length, front_length, sides-append, sides-length}

@@ -3,9 +3,9 @@ use Rattle.core.specs.Prelude.{◌≡◌, ℕ, ◌+◌, ◌≤◌, true, cond, �
 use Rattle.deck.specs.Player.{length_in, memory_size, restarted, standing_answer}
 use Rattle.deck.specs.declared.Counts.{Counts}
 use Rattle.deck.specs.declared.Player.{Player}
-use Rattle.log.specs.Log.{check_of, checked_by, count_of, due_at, due_before, edition1, writes_from}
-use Rattle.log.specs.declared.Checked.{Checked}
-use Rattle.log.specs.declared.Checked.TheVariants as checked
+use Rattle.register_log.specs.Log.{check_of, checked_by, count_of, due_at, due_before, edition1, writes_from}
+use Rattle.register_log.specs.declared.Checked.{Checked}
+use Rattle.register_log.specs.declared.Checked.TheVariants as checked
 use Rattle.marks.specs.Marks.{is_set}
 use Rattle.refusal.specs.declared.Answer.{Answer}
 use Rattle.refusal.specs.declared.Answer.TheVariants.{Accepted}

@@ -1,4 +1,6 @@
 // The player: one log, played, sought and marked, with voices muted. Each call checks what it is lent, in document 01's order.
+#![tactic(auto)]
+
 mod rows;
 mod walk;
 
@@ -7,7 +9,7 @@ ghost use Rattle.std.proofs.lemmas.List.Edits.{sets};
 ghost use Rattle.deck.specs.Player.{fresh, open_of, standing_of, moved_on, play_answer, play_of, seek_answer, seek_of, memory_size, slot_place, slot_of, set_answer, set_of, clear_answer, clear_of, go_to_answer, go_to_of, mute_answer, mute_of, turn_by, with_marks, writes_in};
 ghost use Rattle.deck.specs.Unbroken.{no_counts};
 ghost use Rattle.deck.specs.declared.Player.{Player};
-ghost use Rattle.log.specs.Log.{edition1, log_answer};
+ghost use Rattle.register_log.specs.Log.{edition1, log_answer};
 ghost use Rattle.marks.specs.Marks.{marks_set, lowest_free};
 ghost use Rattle.refusal.specs.Refusal.{Tells};
 ghost use Rattle.vsu.specs.Core.{in_range, with_mutes};
@@ -16,8 +18,8 @@ ghost use Rattle.player.specs.Walk.{placed_at, start_for, Walkable, Recallable};
 use crate::walk::{Heard, Walked};
 use deck::{APPLIED_PLACE, IMAGE_PLACE, MEMORY_SIZE, Played, Player, SLOT_SIZE, Turn};
 use image::Loaded;
-use log::Checked;
 use refusal::{Answer, Refusal};
+use register_log::Checked;
 use vsu::core;
 use vsu::core::Vsu;
 
@@ -118,7 +120,7 @@ fn turn_by(a: Answer, p: Player, q: Player) -> Turn
 pub fn open(log: &[u8]) -> Turn
     ensures { (result ≡ open_of log.now) × Tells result.answer (log_answer edition1 log.now) }
 {
-    let c = log::check_log(log);
+    let c = register_log::check_log(log);
     let p = fresh();
     turn_by(rows::answer_of(c), p, p)
 }
@@ -127,7 +129,7 @@ pub fn open(log: &[u8]) -> Turn
 fn standing(p: Player, log: &[u8]) -> Checked
     ensures { result ≡ standing_of p log.now }
 {
-    let c = log::check_log(log);
+    let c = register_log::check_log(log);
     let c = rows::row(c, !core::in_range(unit_of(p)), Refusal::State);
     rows::row(
         c,

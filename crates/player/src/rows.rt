@@ -1,11 +1,11 @@
 // An order of refusals, row by row: what the check of a log has told, and each fault after it. No record is in sight here, so that the
 // branches of an order cost the prover little.
 ghost use Rattle.core.specs.Prelude.{◌≡◌, not};
-ghost use Rattle.log.specs.Log.{checked_answer};
+ghost use Rattle.register_log.specs.Log.{checked_answer};
 ghost use Rattle.player.specs.Rows.{row_by, answered_by, count_by, is_accepted, is_past, is_misplaced};
 
-use log::Checked;
 use refusal::{Answer, Refusal};
+use register_log::Checked;
 
 // The next row: where no fault came before it.
 pub(crate) fn row(c: Checked, fault: bool, why: Refusal) -> Checked
@@ -95,7 +95,7 @@ pub(crate) fn is_misplaced(c: Checked, log: &[u8], cycle: u32, applied: u32) -> 
 {
     match c {
         Checked::Log { count, cycles } => {
-            !((cycle <= cycles) & log::stands_at(log, count, cycle, applied))
+            !((cycle <= cycles) & register_log::stands_at(log, count, cycle, applied))
         }
         Checked::Refused(_) => false,
     }

@@ -1,6 +1,6 @@
 // A unit run on through a log: the entries in the span and the cycles in the span, and no more.
 ghost use Rattle.core.specs.Prelude.{◌≡◌, ◌-◌, ◌*◌, ◌<◌, ◌≤◌, ◌++◌, length, drop};
-ghost use Rattle.log.specs.Log.{edition1, writes_from, due_before};
+ghost use Rattle.register_log.specs.Log.{edition1, writes_from, due_before};
 ghost use Rattle.vsu.specs.Core.{advance_of, frames_due, run_of, sides, write_of};
 ghost use Rattle.deck.specs.Unbroken.{counts_of, frames_on, in_all, moments_on, no_counts, run_on};
 ghost use Rattle.player.specs.Walk.{counted_by, next_of, Walkable};
@@ -10,14 +10,14 @@ use vsu::core;
 use vsu::core::{Said, Vsu};
 
 // Where a walk has come to.
-#[derive(Drop)]
+#[derive(Clone, Copy)]
 pub struct Walked {
     pub unit: Vsu,
     pub applied: u32,
 }
 
 // The same of a walk with frames, and how many of its entries said what.
-#[derive(Drop)]
+#[derive(Clone, Copy)]
 pub struct Heard {
     pub walked: Walked,
     pub counts: Counts,
@@ -28,7 +28,7 @@ fn next_due(log: &[u8], count: u32, applied: u32, target: u32) -> u32
     ensures { result ≡ next_of log.now count applied target }
 {
     if applied < count {
-        let due = log::due_at(log, applied);
+        let due = register_log::due_at(log, applied);
         if due < target {
             return due;
         }
@@ -122,7 +122,7 @@ pub(crate) fn skip_to(
     while cycle < target {
         let due = next_due(log, count, k, target);
         if due <= cycle {
-            let w = log::write_at(log, k);
+            let w = register_log::write_at(log, k);
             unit = written(unit, w.address, w.byte);
             k += 1;
         } else {
@@ -160,7 +160,7 @@ pub(crate) fn run_to(
     while cycle < target {
         let due = next_due(log, count, k, target);
         if due <= cycle {
-            let w = log::write_at(log, k);
+            let w = register_log::write_at(log, k);
             counts = counted(counts, core::says(unit, w.address as u32));
             unit = written(unit, w.address, w.byte);
             k += 1;

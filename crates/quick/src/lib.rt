@@ -1,4 +1,6 @@
 // The quick engine: the cycle engine's two runs, state and frames alike, by leaps over the cycles that change nothing but counters.
+#![tactic(auto)]
+
 mod voices;
 
 ghost use Rattle.core.specs.Prelude.{◌≡◌, ◌+◌, ◌*◌, ◌%◌, ◌≤◌, true, ◌++◌, length, drop};

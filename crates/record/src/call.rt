@@ -4,7 +4,7 @@ ghost use Rattle.std.specs.Prelude.{◌≤◌, length};
 use lines::words;
 use lines::words::Number;
 
-#[derive(Drop)]
+#[derive(Clone, Copy)]
 pub(crate) enum Call {
     Add { cycle: u32, address: u16, byte: u8 },
     Finish(u32),

@@ -1,4 +1,6 @@
 // The panel recorder: each line of standard input is a turn of the panel, and the log that is finished goes to standard output.
+#![tactic(auto)]
+
 mod call;
 mod console;
 mod output;

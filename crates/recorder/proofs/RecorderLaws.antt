@@ -10,9 +10,9 @@ use lib.Dec.{eqb, leb, ltb}
 use lib.Seq.{sets}
 use Rattle.little.specs.Little.{bytes}
 use Rattle.little.proofs.LittleLaws.{sets-append}
-use Rattle.log.specs.Log.{Layout, edition1, entry_place, most_entries}
-use Rattle.log.specs.Encoder.{entry_bytes, header_bytes}
-use Rattle.log.specs.declared.Write.{Write}
+use Rattle.register_log.specs.Log.{Layout, edition1, entry_place, most_entries}
+use Rattle.register_log.specs.Encoder.{entry_bytes, header_bytes}
+use Rattle.register_log.specs.declared.Write.{Write}
 use Rattle.refusal.specs.Refusal.{fault, ◌then◌, Tells}
 use Rattle.refusal.specs.declared.Answer.{Answer}
 use Rattle.refusal.specs.declared.Answer.TheVariants.{Accepted, Refused}

@@ -3,9 +3,9 @@
 -- and every byte of the buffer.
 use Rattle.std.specs.Prelude.{ℕ, suc, not, ◌&&◌, List, eqb, leb, ltb, length}
 use Rattle.std.proofs.lemmas.List.Edits.{sets}
-use Rattle.log.specs.Log.{Layout, entry_place, most_entries}
-use Rattle.log.specs.Encoder.{entry_bytes, header_bytes}
-use Rattle.log.specs.declared.Write.{Write}
+use Rattle.register_log.specs.Log.{Layout, entry_place, most_entries}
+use Rattle.register_log.specs.Encoder.{entry_bytes, header_bytes}
+use Rattle.register_log.specs.declared.Write.{Write}
 use Rattle.refusal.specs.Refusal.{fault, ◌then◌}
 use Rattle.refusal.specs.declared.Answer.{Answer}
 use Rattle.refusal.specs.declared.Answer.TheVariants.{Accepted, Refused}

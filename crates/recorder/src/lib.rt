@@ -1,8 +1,10 @@
 // The panel recorder: writes added as they are made, in a buffer of the caller's that becomes a register log.
+#![tactic(auto)]
+
 ghost use Rattle.std.specs.Prelude.{◌≡◌, length};
 ghost use Rattle.std.proofs.lemmas.List.Edits.{sets};
-ghost use Rattle.log.specs.Log.{edition1, entry_place};
-ghost use Rattle.log.specs.Encoder.{entry_bytes, header_bytes};
+ghost use Rattle.register_log.specs.Log.{edition1, entry_place};
+ghost use Rattle.register_log.specs.Encoder.{entry_bytes, header_bytes};
 ghost use Rattle.refusal.specs.Refusal.{Tells};
 ghost use Rattle.recorder.specs.Recorder.{start_answer, start_of, add_answer, add_of, finish_answer, finish_of};
 
@@ -10,14 +12,14 @@ use little::Width;
 use refusal::{Answer, Refusal};
 
 // How many entries there are, and the due cycle of the last; without entries `last` means nothing.
-#[derive(Drop)]
+#[derive(Clone, Copy)]
 pub struct Recorder {
     pub entries: u32,
     pub last: u32,
 }
 
 // What a call answers.
-#[derive(Drop)]
+#[derive(Clone, Copy)]
 pub struct Turn {
     pub recorder: Recorder,
     pub answer: Answer,
@@ -27,7 +29,7 @@ pub struct Turn {
 pub fn size(r: Recorder) -> usize
     ensures { result ≡ entry_place edition1 r.entries }
 {
-    log::entry_place(r.entries)
+    register_log::entry_place(r.entries)
 }
 
 fn refused(r: Recorder, why: Refusal) -> Turn
@@ -70,7 +72,7 @@ pub fn start(buffer: &mut [u8]) -> Turn
 fn put_entry(buffer: &mut [u8], index: u32, cycle: u32, address: u16, byte: u8)
     ensures { buffer.new ≡ sets buffer.old (entry_place edition1 index) (entry_bytes edition1 (record { due = cycle; address = address; byte = byte })) }
 {
-    let at = log::entry_place(index);
+    let at = register_log::entry_place(index);
     little::put(buffer, at, Width::U32, cycle);
     little::put(buffer, at + 4, Width::U16, address as u32);
     little::put(buffer, at + 6, Width::U16, byte as u32); // and the zero behind it
@@ -87,7 +89,7 @@ pub fn add(r: Recorder, cycle: u32, address: u16, byte: u8, buffer: &mut [u8]) -
         return refused(r, Refusal::LogCount);
     }
     // by its own place and not the next one's: so the compiler sees that all eight bytes have room
-    if buffer.len() < log::entry_place(r.entries) + 8 {
+    if buffer.len() < register_log::entry_place(r.entries) + 8 {
         return refused(r, Refusal::Room);
     }
     put_entry(buffer, r.entries, cycle, address, byte);
@@ -114,7 +116,7 @@ pub fn finish(r: Recorder, cycles: u32, buffer: &mut [u8]) -> Turn
     if r.entries > 1_000_000 {
         return refused(r, Refusal::LogCount);
     }
-    if buffer.len() < log::entry_place(r.entries) {
+    if buffer.len() < register_log::entry_place(r.entries) {
         return refused(r, Refusal::Room);
     }
     put_header(buffer, r.entries, cycles);

@@ -15,11 +15,11 @@ use Rattle.deck.proofs.Demand3.{demand-3, opens}
 use Rattle.laws.proofs.Cases.{both, each}
 use Rattle.little.specs.Little.{bytes}
 use Rattle.little.proofs.LittleLaws.{drop-later, sets-after, sets-before, sets-there}
-use Rattle.log.specs.Log.{Layout, edition1, entry_in, entry_of, entry_place, handed, most_entries, writes_of}
-use Rattle.log.specs.Encoder.{entries_bytes, entry_bytes, header_bytes, log_of}
-use Rattle.log.specs.declared.Write.{Write}
-use Rattle.log.proofs.AcceptedLaws.{Accepted}
-use Rattle.log.proofs.EncoderLaws.{Sound, accepts, entries-append, entries-back, entry_length, header-length, laid-1, log-passes, log-sound, writes-back}
+use Rattle.register_log.specs.Log.{Layout, edition1, entry_in, entry_of, entry_place, handed, most_entries, writes_of}
+use Rattle.register_log.specs.Encoder.{entries_bytes, entry_bytes, header_bytes, log_of}
+use Rattle.register_log.specs.declared.Write.{Write}
+use Rattle.register_log.proofs.AcceptedLaws.{Accepted}
+use Rattle.register_log.proofs.EncoderLaws.{Sound, accepts, entries-append, entries-back, entry_length, header-length, laid-1, log-passes, log-sound, writes-back}
 use Rattle.refusal.specs.Refusal.{fault}
 use Rattle.refusal.specs.declared.Answer.{Answer}
 use Rattle.refusal.specs.declared.Answer.TheVariants as answer

@@ -5,10 +5,10 @@
 use Rattle.std.specs.Prelude.{ℕ, suc, max, ◌<◌, ◌≡◌, not, ◌&&◌, List, [], ◌∷◌, ◌++◌, eqb, leb, ltb, drop, length, take}
 use Rattle.deck.specs.Calls as deck
 use Rattle.deck.specs.Player.{fresh, open_of}
-use Rattle.log.specs.Log.{check_of, edition1, entry_of, entry_place, handed, most_entries, writes_of}
-use Rattle.log.specs.Encoder.{log_of}
-use Rattle.log.specs.declared.Checked.TheVariants as checked
-use Rattle.log.specs.declared.Write.{Write}
+use Rattle.register_log.specs.Log.{check_of, edition1, entry_of, entry_place, handed, most_entries, writes_of}
+use Rattle.register_log.specs.Encoder.{log_of}
+use Rattle.register_log.specs.declared.Checked.TheVariants as checked
+use Rattle.register_log.specs.declared.Write.{Write}
 use Rattle.refusal.specs.Refusal.{fault, ◌then◌}
 use Rattle.refusal.specs.declared.Answer.{Answer}
 use Rattle.refusal.specs.declared.Answer.TheVariants.{Accepted, Refused}

@@ -1,9 +1,11 @@
 // The refusals of documents 01 and 02, once for the whole project.
+#![tactic(auto)]
+
 ghost use Rattle.std.specs.Prelude.{◌≡◌};
 ghost use Rattle.refusal.specs.Refusal.{number_of, carried_of};
 
 // One case for each number, in order: 1 to 16 are 01's table, 17 and 18 are 02's.
-#[derive(Drop)]
+#[derive(Clone, Copy)]
 pub enum Refusal {
     State,
     Room,
@@ -26,7 +28,7 @@ pub enum Refusal {
 }
 
 // How a call ended.
-#[derive(Drop)]
+#[derive(Clone, Copy)]
 pub enum Answer {
     Accepted,
     Refused(Refusal),

@@ -3,7 +3,7 @@ use little::Width;
 
 // Everything but the bytes: the record's numbers, the slot named, the mute bits named, the cycle that a play or a seek goes to, and how
 // much is lent of the log, of the mark memory and of the frame buffer.
-#[derive(Drop)]
+#[derive(Clone, Copy)]
 pub(crate) struct Given {
     pub(crate) output: u32,
     pub(crate) mutes: u8,
@@ -18,7 +18,7 @@ pub(crate) struct Given {
     pub(crate) sides: usize,
 }
 
-#[derive(Drop)]
+#[derive(Clone, Copy)]
 pub(crate) enum Damage {
     LogEnds(usize),
     Log(usize, Width, u32),
@@ -39,7 +39,7 @@ pub(crate) enum Damage {
 }
 
 // A damage, the refusal's number, the value that it carries, and the calls that are refused for it: the sum of their bits.
-#[derive(Drop)]
+#[derive(Clone, Copy)]
 pub(crate) struct Row(
     pub(crate) Damage,
     pub(crate) u32,

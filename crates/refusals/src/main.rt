@@ -2,6 +2,8 @@
 // then with each of those that come after it. A line has the call, the damages, the refusal's number and the value it carries,
 // whether all that was given and lent is as before, and whether the refusal is that of the damage that document 01 has first. Then
 // calls at the edges of the refusals.
+#![tactic(auto)]
+
 mod damage;
 mod trial;
 

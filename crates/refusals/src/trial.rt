@@ -10,7 +10,7 @@ use player::{
 use refusal::Answer;
 use vsu::core;
 
-#[derive(Drop)]
+#[derive(Clone, Copy)]
 pub(crate) enum Call {
     Open,
     Play,
@@ -24,7 +24,7 @@ pub(crate) enum Call {
 
 // What came of a call: the refusal's number (0: accepted) and the value it carries, the frames, the record's numbers, and whether the
 // record and every lent byte are as before and no frame is counted.
-#[derive(Drop)]
+#[derive(Clone, Copy)]
 pub(crate) struct Seen {
     pub(crate) number: u32,
     pub(crate) carried: u32,
@@ -38,7 +38,7 @@ pub(crate) struct Seen {
 }
 
 // Eight bytes of a log: two numbers of 32 bits.
-#[derive(Drop)]
+#[derive(Clone, Copy)]
 struct Eight(u32, u32);
 
 // Six entries, L 4,800: the four of document 01's own log, a volume due 1,000 and the stop register due 3,000. An entry's second

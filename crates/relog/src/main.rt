@@ -1,11 +1,13 @@
 // Replays a stream of logs of the oracle (oracle/README.md) on the log, through its public calls. Prints one line: that all agreed,
 // or what differs first.
+#![tactic(auto)]
+
 use libc::{STDIN_FILENO, STDOUT_FILENO};
-use log::{Checked, Counted, Read, Write};
 use refusal::Refusal;
+use register_log::{Checked, Counted, Read, Write};
 
 // Where a replay stands: the bytes of the present log, what was counted, the present op's number from 0, and whether to go on.
-#[derive(Drop)]
+#[derive(Clone, Copy)]
 struct Replay {
     size: u32,
     logs: u64,
@@ -15,7 +17,7 @@ struct Replay {
 }
 
 // An answer as the stream has it.
-#[derive(Drop)]
+#[derive(Clone, Copy)]
 struct Numbers {
     a: u32,
     b: u32,
@@ -210,7 +212,12 @@ fn check_behind(r: Replay, log: &[u8]) -> Replay {
         c: little::u32_at(&b, 8),
         d: little::u32_at(&b, 12),
     };
-    compare(r, b"G", expected, check_answer(log::check_log(log)))
+    compare(
+        r,
+        b"G",
+        expected,
+        check_answer(register_log::check_log(log)),
+    )
 }
 
 fn check_sized(r: Replay, size: u32, space: &mut [u8]) -> Replay {
@@ -241,7 +248,7 @@ fn entry_of(r: Replay, log: &[u8]) -> Replay {
         r,
         b"I",
         four(&b),
-        entry_answer(log::entry(log, little::u32_at(&b, 0))),
+        entry_answer(register_log::entry(log, little::u32_at(&b, 0))),
     )
 }
 
@@ -249,13 +256,13 @@ fn entry_of(r: Replay, log: &[u8]) -> Replay {
 fn only(log: &[u8], count: u32, cycle: u32, n: u32) -> bool {
     let more = std::num::wrapping_add_u32(n, 1);
     let less = std::num::wrapping_sub_u32(n, 1);
-    log::stands_at(log, count, cycle, n)
-        & !log::stands_at(log, count, cycle, more)
-        & !log::stands_at(log, count, cycle, less)
+    register_log::stands_at(log, count, cycle, n)
+        & !register_log::stands_at(log, count, cycle, more)
+        & !register_log::stands_at(log, count, cycle, less)
 }
 
 fn decided(r: Replay, log: &[u8], cycle: u32, n: u32) -> Replay {
-    let c = log::check_log(log);
+    let c = register_log::check_log(log);
     match c {
         Checked::Log { count, cycles: _ } => {
             if only(log, count, cycle, n) {
@@ -273,7 +280,12 @@ fn due_of(r: Replay, log: &[u8]) -> Replay {
         return cut_short(r);
     }
     let cycle = little::u32_at(&b, 0);
-    let t = compare(r, b"D", three(&b), due_answer(log::due_before(log, cycle)));
+    let t = compare(
+        r,
+        b"D",
+        three(&b),
+        due_answer(register_log::due_before(log, cycle)),
+    );
     if !t.going {
         return t;
     }

@@ -10,7 +10,7 @@ use vsu::core;
 use vsu::core::Vsu;
 
 // The number of a refusal and the value that it carries; zeros for a call that was accepted.
-#[derive(Drop)]
+#[derive(Clone, Copy)]
 struct Numbers {
     number: u32,
     carried: u32,

@@ -1,5 +1,7 @@
 // Replays a stream of the oracle (oracle/README.md) on the unit and its image, through their public calls. Prints one line: that
 // all agreed, or what differs first.
+#![tactic(auto)]
+
 mod images;
 mod tally;
 
@@ -11,14 +13,14 @@ use vsu::core;
 use vsu::core::{Moved, Ran, Vsu};
 
 // Where a replay stands.
-#[derive(Drop)]
+#[derive(Clone, Copy)]
 struct Replay {
     unit: Vsu,
     tally: Tally,
 }
 
 // What stands behind an op's letter: three numbers, the first bytes of the first two, and whether all of it came.
-#[derive(Drop)]
+#[derive(Clone, Copy)]
 struct Words {
     a: u32,
     b: u32,

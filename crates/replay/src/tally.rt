@@ -4,7 +4,7 @@ use refusal::Answer;
 use report::print;
 
 // The cases, the checks and the cycles so far, the present op's number from 0 (as `oracle explain` counts), and whether to go on.
-#[derive(Drop)]
+#[derive(Clone, Copy)]
 pub(crate) struct Tally {
     pub(crate) cases: u64,
     pub(crate) checks: u64,

@@ -12,7 +12,7 @@ use voice::channel_enum::{
 };
 
 // What the playing voices add to each side.
-#[derive(Drop)]
+#[derive(Clone, Copy)]
 pub struct Sums {
     pub left: u32,
     pub right: u32,

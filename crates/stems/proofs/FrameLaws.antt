@@ -11,7 +11,7 @@ use lib.ListN.{get_or, length, get_or-append}
 use lib.Seq.{get_or_at}
 use Rattle.deck.proofs.UnbrokenLaws.{apply-output, frames-on-length, run-on-output}
 use Rattle.deck.specs.Unbroken.{apply_at, frames_on, run_on}
-use Rattle.log.specs.declared.Write.{Write}
+use Rattle.register_log.specs.declared.Write.{Write}
 use Rattle.six.specs.Core.{silenced}
 use Rattle.vsu.proofs.RunLaws.{sides-length}
 use Rattle.vsu.specs.Core.{cycle, frame_of, frames_due, made, makes_frame, sides}

@@ -12,7 +12,7 @@ use Rattle.deck.proofs.UnbrokenLaws.{bytes_of, frames-on-length, run-on-keeps, r
 use Rattle.deck.specs.Player.{writes_in}
 use Rattle.deck.specs.Unbroken.{frames_on}
 use Rattle.deck.specs.declared.Player.{Player}
-use Rattle.log.specs.Log.{count_of}
+use Rattle.register_log.specs.Log.{count_of}
 use Rattle.refusal.specs.declared.Answer.{Answer}
 use Rattle.refusal.specs.declared.Answer.TheVariants.{Accepted}
 use Rattle.six.specs.Core.{off_wave, heard_left, heard_right, plays, silenced, silenced_from, sums_of, total, voice_at}

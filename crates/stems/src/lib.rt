@@ -1,5 +1,7 @@
 // The stem bouncer: one span of a log, each of its six voices alone and all of them together. It stands above the player and knows only
 // its contracts.
+#![tactic(auto)]
+
 ghost use Rattle.std.specs.Prelude.{◌≡◌, ◌≤◌, min, length};
 ghost use Rattle.deck.specs.Player.{play_answer};
 ghost use Rattle.refusal.specs.Refusal.{Tells};
@@ -9,7 +11,7 @@ use deck::{Played, Player, Turn};
 use refusal::Answer;
 
 // The record as it was given, the number of frames, and how the call ended.
-#[derive(Drop)]
+#[derive(Clone, Copy)]
 pub struct Bounced {
     pub player: Player,
     pub frames: u32,
@@ -17,7 +19,7 @@ pub struct Bounced {
 }
 
 // One of the seven: the number of its frames, and how its play ended.
-#[derive(Drop)]
+#[derive(Clone, Copy)]
 struct Rendered {
     frames: u32,
     answer: Answer,

@@ -2,6 +2,8 @@
 // begins, and playing goes on. Going to the mark, and seeking back, then give the frames of the unbroken run. A unit that is sent
 // the last byte of each register gives others: "Errors that look right". Last a rehearsal: the voice is muted, and going to the mark
 // keeps it so, also to one of a memory from before there were mutes, whose images are of edition 1.
+#![tactic(auto)]
+
 mod song;
 
 use deck::{IMAGE_PLACE, MEMORY_SIZE, Player};
@@ -15,7 +17,7 @@ use vsu::core;
 use vsu::core::Vsu;
 
 // A record and the sum of the frames that were played to come to it.
-#[derive(Drop)]
+#[derive(Clone, Copy)]
 struct Heard {
     player: Player,
     frames: u32,

@@ -1,6 +1,6 @@
 // The log: channel 5 with a wave and a modulation table that doesn't loop, an upbeat, then 41 bars with a few writes.
 use little::Width;
-use log::write_at;
+use register_log::write_at;
 use vsu::core;
 use vsu::core::Vsu;
 
@@ -13,7 +13,7 @@ pub(crate) const BAR: u32 = 12_000;
 const COUNT: u32 = 78;
 
 // A write's due cycle, address and byte.
-#[derive(Drop)]
+#[derive(Clone, Copy)]
 struct Entry(u32, u32, u32);
 
 // Volume, frequency, envelope, modulation without loop, bank 0, interval 1, play. Then volumes, frequencies and an envelope in bars 8,

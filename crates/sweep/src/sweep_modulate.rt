@@ -6,7 +6,7 @@ use crate::constants::{SWEEP_FAST_CYCLE_COUNT, SWEEP_SLOW_CYCLE_COUNT};
 use common::channel::Channel;
 use common::{bits, channel};
 
-#[derive(Drop)]
+#[derive(Clone, Copy)]
 pub struct SweepModulate {
     pub step: u32,
     pub last: u16,
@@ -24,7 +24,7 @@ pub struct SweepModulate {
 }
 
 // The sweep after a step, and channel 5's record, which an overflow stops.
-#[derive(Drop)]
+#[derive(Clone, Copy)]
 pub struct Stepped {
     pub sweep: SweepModulate,
     pub channel: Channel,

@@ -1,4 +1,6 @@
 // "One table of image fields gives each field's offset, width and largest value; tap and output have their own rules besides."
+#![tactic(auto)]
+
 ghost use Rattle.std.specs.Prelude.{◌≡◌, ◌<◌, get_or, length};
 ghost use Rattle.table.specs.Table.{number1, number2, header, sample, entry, wave, noise, sweep, zeros, mutes, no_cell, cells_of, cell_at, own_of, parts_of, part_of, width_of, known_edition, broken_by, field_faulty};
 
@@ -6,7 +8,7 @@ use little::Width;
 use voice::channel_enum;
 
 // What a field's value keeps to besides its largest.
-#[derive(Drop)]
+#[derive(Clone, Copy)]
 pub enum Own {
     None,
     // the header's numbers
@@ -16,7 +18,7 @@ pub enum Own {
 }
 
 // A field: its offset in the image, its width, its largest value, its own rule.
-#[derive(Drop)]
+#[derive(Clone, Copy)]
 pub struct Row {
     pub offset: u32,
     pub width: Width,
@@ -25,11 +27,11 @@ pub struct Row {
 }
 
 // A field of a part: its offset in the part, its width in bytes, its largest value.
-#[derive(Drop)]
+#[derive(Clone, Copy)]
 pub struct Cell(pub u32, pub u32, pub u32);
 
 // What a part is made of: an edition differs from another in its number and in what its last two bytes hold.
-#[derive(Drop)]
+#[derive(Clone, Copy)]
 pub enum Block {
     Edition1,
     Edition2,
@@ -45,11 +47,11 @@ pub enum Block {
 
 // A part of the image, which comes again until the next one begins: the number of its first field, its offset, its size, what it is
 // made of, and of how many cells.
-#[derive(Drop)]
+#[derive(Clone, Copy)]
 pub struct Part(pub u16, pub u32, pub u32, pub Block, pub u32);
 
 // The editions that are known.
-#[derive(Drop)]
+#[derive(Clone, Copy)]
 pub enum Known {
     First,
     Second,

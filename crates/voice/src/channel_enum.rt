@@ -11,7 +11,7 @@ use common::{bits, channel};
 use sweep::sweep_modulate;
 use sweep::sweep_modulate::SweepModulate;
 
-#[derive(Drop)]
+#[derive(Clone, Copy)]
 pub enum Kind {
     Wave {
         bank: u8,
@@ -29,14 +29,14 @@ pub enum Kind {
     },
 }
 
-#[derive(Drop)]
+#[derive(Clone, Copy)]
 pub struct Voice {
     pub channel: Channel,
     pub kind: Kind,
 }
 
 // Which of the five waves a wave kind reads, and where in it.
-#[derive(Drop)]
+#[derive(Clone, Copy)]
 pub struct Reading {
     pub bank: u8,
     pub position: u8,

@@ -11,7 +11,7 @@ use voice::channel_enum;
 use voice::channel_enum::Voice;
 
 // Bit k of the mutes is for channel k.
-#[derive(Drop)]
+#[derive(Clone, Copy)]
 pub struct Vsu {
     pub voices: [Voice; 6],
     pub output: u32,
@@ -20,14 +20,14 @@ pub struct Vsu {
     pub mutes: u8,
 }
 
-#[derive(Drop)]
+#[derive(Clone, Copy)]
 pub struct Frame {
     pub left: i16,
     pub right: i16,
 }
 
 // Where a register write goes.
-#[derive(Drop)]
+#[derive(Clone, Copy)]
 pub enum Register {
     Wave(usize),
     Modulation(usize),
@@ -37,7 +37,7 @@ pub enum Register {
 }
 
 // What a register write says: taken, held off by playing, no such register; or why it was refused.
-#[derive(Drop)]
+#[derive(Clone, Copy)]
 pub enum Said {
     Taken,
     Held,
@@ -46,21 +46,21 @@ pub enum Said {
 }
 
 // The state after a write, and what it says.
-#[derive(Drop)]
+#[derive(Clone, Copy)]
 pub struct Written {
     pub state: Vsu,
     pub said: Said,
 }
 
 // The state after a run without frames, and how it ended.
-#[derive(Drop)]
+#[derive(Clone, Copy)]
 pub struct Moved {
     pub state: Vsu,
     pub answer: Answer,
 }
 
 // The state after a run, how many frames it made, and how it ended.
-#[derive(Drop)]
+#[derive(Clone, Copy)]
 pub struct Ran {
     pub state: Vsu,
     pub frames: u32,

@@ -1,5 +1,7 @@
 // The log on standard input as a 16-bit stereo WAV of its frames on standard output. A line `mute B` may stand before the log: its
 // frames are then those with these mutes.
+#![tactic(auto)]
+
 mod riff;
 
 ghost use Rattle.std.specs.Prelude.{◌≤◌, length};
@@ -7,8 +9,8 @@ ghost use Rattle.std.specs.Prelude.{◌≤◌, length};
 use deck::Player;
 use libc::{STDERR_FILENO, STDIN_FILENO, STDOUT_FILENO};
 use lines::words::{Number, behind};
-use log::Checked;
 use refusal::Refusal;
+use register_log::Checked;
 use report::{print, progress, text};
 
 // A log of any length is played in plays of at most 1,024 frames: their cycles.
@@ -20,7 +22,7 @@ const MOST: usize = 1_048_576;
 const LINE: usize = 16;
 
 // The player, whether all that it played is written, and how much was last told to be done.
-#[derive(Drop)]
+#[derive(Clone, Copy)]
 struct Playing {
     player: Player,
     written: bool,
@@ -94,7 +96,7 @@ fn refused(why: Refusal) {
 }
 
 fn convert(log: &[u8], mutes: u32) {
-    let c = log::check_log(log);
+    let c = register_log::check_log(log);
     match c {
         Checked::Log { count: _, cycles } => {
             if !sound(log, cycles, mutes) {

@@ -1,7 +1,7 @@
 -- The place never passes the number of entries; each write that is read moves it one on, so that the end is read at that number.
 use Rattle.std.proofs.Common.{◌-◌, ◌≤◌, sym, ◌∙◌, arith, rules}
-use Rattle.log.proofs.ReaderLaws.{read-write, read-ended, read-refused}
-use Rattle.log.specs.Log.{edition1, entries_in}
+use Rattle.register_log.proofs.ReaderLaws.{read-write, read-ended, read-refused}
+use Rattle.register_log.specs.Log.{edition1, entries_in}
 use Rattle.lister.proofs.entries.Statement.{statement}
 use Rattle.lister.proofs.entries.Tie as tie
 

@@ -1,10 +1,10 @@
 use Rattle.recorder.proofs.RecorderLaws as laws
-use Rattle.log.specs.Log.{edition1}
+use Rattle.register_log.specs.Log.{edition1}
 use lib.ListN.{length}
 use lib.Seq.{sets}
 use Prim.Native.Nat.{suc}
-use Rattle.log.specs.Log.{entry_place}
-use Rattle.log.specs.Encoder.{entry_bytes}
+use Rattle.register_log.specs.Log.{entry_place}
+use Rattle.register_log.specs.Encoder.{entry_bytes}
 use borrow.Author.Rules.{rules}
 use Rattle.recorder.proofs.add.Statement.{statement}
 use Rattle.recorder.proofs.add.Tie as tie

@@ -1,8 +1,8 @@
 use Rattle.recorder.proofs.RecorderLaws as laws
-use Rattle.log.specs.Log.{edition1}
+use Rattle.register_log.specs.Log.{edition1}
 use lib.ListN.{length}
 use lib.Seq.{sets}
-use Rattle.log.specs.Encoder.{header_bytes}
+use Rattle.register_log.specs.Encoder.{header_bytes}
 use borrow.Author.Rules.{rules}
 use Rattle.recorder.proofs.finish.Statement.{statement}
 use Rattle.recorder.proofs.finish.Tie as tie

@@ -1,6 +1,6 @@
 use mathlib.Core.Path.{refl}
 use Rattle.recorder.proofs.RecorderLaws as laws
-use Rattle.log.specs.Log.{edition1}
+use Rattle.register_log.specs.Log.{edition1}
 use lib.ListN.{length}
 use Rattle.recorder.specs.Recorder.{none}
 use borrow.Author.Rules.{rules}

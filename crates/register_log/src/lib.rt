@@ -1,0 +1,195 @@
+// The register log: bytes checked once, and read as writes.
+#![tactic(auto)]
+
+pub mod reader;
+
+ghost use Rattle.std.specs.Prelude.{◌≡◌, ℕ, ◌+◌, ◌<◌, ◌≤◌, eqb, length};
+ghost use Rattle.little.specs.Little.{number};
+ghost use Rattle.refusal.specs.Refusal.{Tells};
+ghost use Rattle.register_log.specs.Log.{edition1, entry_place, most_entries, log_answer, checked_by, check_of, checked_answer, entries_answer, write_at, due_at, due_before, writes_from, entry_in, entry_of, entry_answer, due_before_of, counted_answer, due_earlier, stands_at};
+
+use refusal::Refusal;
+
+#[derive(Clone, Copy)]
+pub struct Write {
+    pub due: u32,
+    pub address: u16,
+    pub byte: u8,
+}
+
+// What a check answers: the number of entries and L, or the refusal.
+#[derive(Clone, Copy)]
+pub enum Checked {
+    Log { count: u32, cycles: u32 },
+    Refused(Refusal),
+}
+
+// What reading an entry answers.
+#[derive(Clone, Copy)]
+pub enum Read {
+    Write(Write),
+    Ended,
+    Refused(Refusal),
+}
+
+// What counting the entries due before a cycle answers.
+#[derive(Clone, Copy)]
+pub enum Counted {
+    Number(u32),
+    Refused(Refusal),
+}
+
+// Where an entry's bytes begin.
+pub fn entry_place(index: u32) -> usize
+    ensures { result ≡ entry_place edition1 index }
+{
+    16 + 8 * (index as usize)
+}
+
+// The due cycle of an entry; of bytes that aren't there, 0.
+pub fn due_at(log: &[u8], index: u32) -> u32
+    ensures { result ≡ due_at edition1 log.now index }
+{
+    little::u32_at(log, entry_place(index))
+}
+
+// An entry's write; of bytes that aren't there, zeros.
+pub fn write_at(log: &[u8], index: u32) -> Write
+    ensures { result ≡ write_at edition1 log.now index }
+{
+    let at = entry_place(index);
+    Write {
+        due: little::u32_at(log, at),
+        address: little::u16_at(log, at + 4),
+        byte: little::byte_at(log, at + 6),
+    }
+}
+
+fn wide(x: u8) -> u32
+    ensures { (result ≡ x) × (result < 256) }
+{
+    x as u32
+}
+
+// The due cycle at a place that is known to be in the log: one load, where `due_at` tests each byte's place.
+fn due_in(log: &[u8], at: usize) -> u32
+    requires { at + 3 < length log.now }
+    ensures { result ≡ number 4 log.now at }
+{
+    wide(log[at])
+        + 256 * wide(log[at + 1])
+        + 65_536 * wide(log[at + 2])
+        + 16_777_216 * wide(log[at + 3])
+}
+
+fn check_entries(log: &[u8], count: u32, cycles: u32) -> Checked
+    requires { (count ≤ most_entries) × (length log.now ≡ entry_place edition1 count) }
+    ensures { result ≡ checked_by (entries_answer edition1 log.now cycles count 0) count cycles }
+{
+    let mut before = 0;
+    let mut i = 0;
+    while i < count {
+        let at = entry_place(i);
+        let due = due_in(log, at);
+        if (log[at + 7] != 0) | (due >= cycles) | (due < before) {
+            return Checked::Refused(Refusal::LogEntry(i));
+        }
+        before = due;
+        i += 1;
+    }
+    Checked::Log {
+        count: count,
+        cycles: cycles,
+    }
+}
+
+// Refusals 3 to 8, or the number of entries and L.
+pub fn check_log(log: &[u8]) -> Checked
+    ensures { (result ≡ check_of edition1 log.now) × Tells (checked_answer result) (log_answer edition1 log.now) }
+{
+    if log.len() < 16 {
+        return Checked::Refused(Refusal::LogShort);
+    }
+    if little::u16_at(log, 0) != 1 {
+        return Checked::Refused(Refusal::LogEdition);
+    }
+    if (little::u16_at(log, 2) != 16) | (little::u32_at(log, 8) != 16) {
+        return Checked::Refused(Refusal::LogHeader);
+    }
+    let count = little::u32_at(log, 4);
+    if count > 1_000_000 {
+        return Checked::Refused(Refusal::LogCount);
+    }
+    if log.len() != entry_place(count) {
+        return Checked::Refused(Refusal::LogSize);
+    }
+    check_entries(log, count, little::u32_at(log, 12))
+}
+
+// The write of an entry, or that the log has ended, by the answer of a check.
+pub(crate) fn entry_in(log: &[u8], checked: Checked, index: u32) -> Read
+    ensures { (result ≡ entry_in edition1 checked log.now index) × Tells (entry_answer result) (checked_answer checked) }
+{
+    match checked {
+        Checked::Log { count, cycles: _ } => {
+            if index < count {
+                return Read::Write(write_at(log, index));
+            }
+            Read::Ended
+        }
+        Checked::Refused(why) => Read::Refused(why),
+    }
+}
+
+// The same of any bytes, by a check of its own.
+pub fn entry(log: &[u8], index: u32) -> Read
+    ensures { (result ≡ entry_of edition1 log.now index) × Tells (entry_answer result) (log_answer edition1 log.now) }
+{
+    entry_in(log, check_log(log), index)
+}
+
+fn count_due(log: &[u8], count: u32, cycle: u32) -> u32
+    ensures { result ≡ due_before (writes_from edition1 log.now count 0) cycle }
+{
+    let mut n = 0;
+    let mut i = 0;
+    while i < count {
+        let due = due_at(log, i);
+        i += 1;
+        if due < cycle {
+            n += 1;
+        }
+    }
+    n
+}
+
+// The number of entries due before a cycle.
+pub fn due_before(log: &[u8], cycle: u32) -> Counted
+    ensures { (result ≡ due_before_of edition1 log.now cycle) × Tells (counted_answer result) (log_answer edition1 log.now) }
+{
+    let c = check_log(log);
+    match c {
+        Checked::Log { count, cycles: _ } => Counted::Number(count_due(log, count, cycle)),
+        Checked::Refused(why) => Counted::Refused(why),
+    }
+}
+
+// The due cycle of the entry before, 0 for the first.
+fn due_earlier(log: &[u8], index: u32) -> u32
+    ensures { result ≡ due_earlier edition1 log.now index }
+{
+    if index == 0 {
+        return 0;
+    }
+    due_at(log, index - 1)
+}
+
+// Whether `number` entries of an accepted log of `count` are due before `cycle`, by two reads and no pass.
+pub fn stands_at(log: &[u8], count: u32, cycle: u32, number: u32) -> bool
+    ensures value { result ≡ stands_at edition1 log.now count cycle number }
+    ensures by_index { (k : ℕ) → check_of edition1 log.now ≡ Checked.Log count k → result ≡ eqb number (due_before (writes_from edition1 log.now count 0) cycle) }
+{
+    let earlier = due_earlier(log, number);
+    let next = due_at(log, number);
+    (number <= count) & ((number == 0) | (earlier < cycle)) & ((count <= number) | (cycle <= next))
+}

@@ -1,0 +1,75 @@
+// A log that is read from entry to entry. The check is made once, and its answer is kept beside the log and the place in it.
+ghost use Rattle.std.specs.Prelude.{◌≡◌, ℕ};
+ghost use Rattle.refusal.specs.Refusal.{Tells};
+ghost use Rattle.register_log.specs.Log.{edition1, check_of, entry_in, handed, place_after, writes_of, entry_answer, checked_answer};
+
+use crate::{Checked, Read};
+
+#[derive(Clone, Copy)]
+pub struct Reader<'a> {
+    log: &'a [u8],
+    checked: Checked,
+    at: u32,
+}
+
+// What stands at a place, and the place after it.
+#[derive(Clone, Copy)]
+pub struct Step {
+    pub read: Read,
+    pub at: u32,
+}
+
+// The place after an entry; where there is none, the same.
+fn place_after(checked: Checked, at: u32) -> u32
+    ensures { result ≡ place_after checked at }
+{
+    match checked {
+        Checked::Log { count, cycles: _ } => {
+            if at < count {
+                return at + 1;
+            }
+            at
+        }
+        Checked::Refused(_) => at,
+    }
+}
+
+// A reader that stands at the log's first entry.
+pub fn new<'a>(log: &'a [u8]) -> Reader<'a>
+    ensures { (result.log ≡ log.entry) × (result.checked ≡ check_of edition1 log.now) × (result.at ≡ 0) }
+{
+    Reader {
+        log,
+        checked: crate::check_log(log),
+        at: 0,
+    }
+}
+
+// What stands at the reader's place; of an accepted log that is the write of that number, or that the log has ended.
+pub fn next<'a>(r: Reader<'a>) -> Read
+    ensures { (result ≡ entry_in edition1 r.entry.checked r.entry.log.now r.entry.at) × ((n k : ℕ) → check_of edition1 r.entry.log.now ≡ Checked.Log n k → r.entry.checked ≡ Checked.Log n k → result ≡ handed (writes_of edition1 r.entry.log.now) r.entry.at) × Tells (entry_answer result) (checked_answer r.entry.checked) }
+{
+    crate::entry_in(r.log, r.checked, r.at)
+}
+
+// The reader at the place after.
+pub fn moved<'a>(r: Reader<'a>) -> Reader<'a>
+    ensures { (result.log ≡ r.entry.log) × (result.checked ≡ r.entry.checked) × (result.at ≡ place_after r.entry.checked r.entry.at) }
+{
+    Reader {
+        log: r.log,
+        checked: r.checked,
+        at: place_after(r.checked, r.at),
+    }
+}
+
+// Reads and moves on, by the parts of a reader, which a caller keeps: the log, the answer of its check, and the place.
+pub fn read_on(log: &[u8], checked: Checked, at: u32) -> Step
+    ensures { (result.read ≡ entry_in edition1 checked log.now at) × ((n k : ℕ) → check_of edition1 log.now ≡ Checked.Log n k → checked ≡ Checked.Log n k → result.read ≡ handed (writes_of edition1 log.now) at) × (result.at ≡ place_after checked at) × Tells (entry_answer result.read) (checked_answer checked) }
+{
+    let r = Reader { log, checked, at };
+    Step {
+        read: next(r),
+        at: moved(r).at,
+    }
+}
