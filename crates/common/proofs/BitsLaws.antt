@@ -67,10 +67,10 @@ added_is (negsuc e) f = rw (le-ltb 2048 (suc e) (omega (arith, f.sfits))) (ap po
 
 module _ (e : ℤ) (f : SFits w8 e) where
   entry-is : to_z w16 (of_z w16 (to_z w8 (of_z w8 e))) ≡ e
-  entry-is = ap (λ (z : ℤ). to_z w16 (of_z w16 z)) (to_z-of_z f) ∙ to_z-of_z (sfits_widen tt f)
+  entry-is = ap (λ (z : ℤ). to_z w16 (of_z w16 z)) (to_z-of_z f) ∙ to_z-of_z {w = w16} (sfits_widen {w = w8} {w' = w16} {z = e} (tt {0}) f)
 
   pub entry-fits : SFits w16 (to_z w8 (of_z w8 e))
-  entry-fits = rw (to_z-of_z f) (sfits_widen tt f)
+  entry-fits = rw (to_z-of_z f) (sfits_widen {w = w8} {w' = w16} {z = e} (tt {0}) f)
 
   addend-is : to_z w16 (of_z w16 (to_z w8 (of_z w8 e))) +ℤ pos 2048 ≡ pos (addend e)
   addend-is = ap (λ (z : ℤ). z +ℤ pos 2048) entry-is ∙ added_is e f

@@ -1,0 +1,8 @@
+use mathlib.Core.Path.{refl}
+use Rattle.common.specs.Channel.{write_interval}
+use borrow.Author.Rules.{rules}
+use Rattle.common.proofs.channel.set_live.Goals as goal
+
+pub returns : goal.returns
+unfolding write_interval
+returns c = rw (c.flag-2.ensures, c.flag.ensures, c.field.ensures) refl

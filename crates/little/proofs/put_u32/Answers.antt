@@ -1,0 +1,14 @@
+use Rattle.little.proofs.LittleLaws as laws
+use Rattle.little.specs.Little.{bytes}
+use mathlib.Core.Path.{◌∙◌, sym, ap}
+use borrow.Author.Rules.{rules}
+use Rattle.little.proofs.put_u32.Reads as reads
+use Rattle.little.proofs.put_u32.Lts as lts
+use Rattle.little.proofs.put_u16.Reads as put-u16-reads
+use Rattle.little.proofs.put_u32.Goals as goal
+
+pub returns-then-at-out : goal.returns-then-at-out
+returns-then-at-out c = laws.put_four c.args.out.now c.args.at c.args.value c.put_u16.ensures c.put_u16-then-at-out.ensures
+
+pub returns-else-at-out : goal.returns-else-at-out
+returns-else-at-out c = sym (laws.sets-out c.args.out.now c.args.at (bytes 4 c.args.value) c.if-at-out.false)
