@@ -14,6 +14,7 @@ import re
 import sys
 
 NAME = r"[A-Za-z_μ][\w'\-₀₁₂μ]*"
+SOURCE = {"type-inv": "type_inv", "well-formed": "well_formed"}
 plain = lambda it: re.sub("-+", "-", it.replace("_", "-"))
 
 
@@ -44,12 +45,15 @@ def entry(names, path):
 
 
 def steps(it):
-    """place -> the steps on the way to it, old name -> new name"""
+    """place -> the steps on the way to it, old name -> new name; and old paths into an arm -> new ones, as tuples"""
     by = {}
-    for (old, parent, (o, n), callee, _), new in zip(it["places"], it["places_by_name"]):
+    for (old, parent, (o, n), callee, _), new, arm in zip(it["places"], it["places_by_name"], it["arms"]):
         way = dict(by.get(parent, {}))
         if o:
             way[plain(o)] = n
+        if arm:
+            for field, step, rest in arm[2]:
+                way[(plain(step), *rest)] = (arm[0], field)
         by[old] = way
     return by
 
@@ -58,13 +62,17 @@ def paths(text, way, told):
     def one(m):
         head, rest = m.group(1), m.group(2)
         parts = [p for p in rest.split(".") if p and p != "before"]
-        if parts:
-            first = plain(parts[0])
+        parts = [parts[0]] + [SOURCE.get(plain(p), p) for p in parts[1:]] if parts else parts
+        long = max((k for k in way if isinstance(k, tuple) and tuple([plain(parts[0])] + parts[1 : len(k)]) == k), key=len, default=None) if parts else None
+        if long:
+            parts = list(way[long]) + parts[len(long) :]
+        elif parts:
+            first = plain(re.sub(r"_Is([A-Z])", lambda k: "-" + k.group(1).lower(), parts[0]))
             if first in way:
                 parts[0] = way[first]
             elif first == "well-formed":
                 parts[0] = "well_formed"
-            elif first not in ("args", "requires", "ranges", "type-inv", "utf8", "auto", "captures"):
+            elif first not in ("type_inv", "well_formed", "args", "requires", "ranges", "type-inv", "utf8", "auto", "captures"):
                 told.append(parts[0])
         return head + "".join("." + p for p in parts)
 
@@ -156,21 +164,7 @@ def turn(crate, names, path, keep):
             expr = m.group(3)
             kindname = "invariant" if was.startswith(("Inv", "invariant")) else "decreases"
             label = re.sub(r"^(invariant|decreases|Inv|μ)-", "", was)
-            pick = None
-            for l in loops:
-                flat = json.dumps(l, ensure_ascii=False)
-                if f'"{label}"' in flat or len(loops) == 1:
-                    pick = l
-                    break
-            new = None
-            if pick is not None:
-                words = [w for w in json.loads(json.dumps(pick)) if isinstance(w, str)] if isinstance(pick, list) else []
-                for w in words:
-                    if plain(w) != plain(label):
-                        new = w
-                if new is None and words:
-                    new = words[-1]
-            new = new or label
+            new = ([l[0][1] for l in loops if plain(l[0][0]) == plain(label)] + [label])[0]
             for p in sorted(params, key=len, reverse=True):
                 to = "l.initial." + p[:-1] if p.endswith("₀") else "l." + p
                 expr = re.sub(r"(?<![\w.'\-₀])" + re.escape(p) + r"(?![\w'\-₀])", to, expr)
@@ -189,6 +183,10 @@ def turn(crate, names, path, keep):
 
 def main(argv):
     crate, names = argv[0], json.loads(read(argv[1]))
+    for folder, _, files in os.walk(f"crates/{crate}/src"):
+        for f in files:
+            for word in re.findall(r"\b[a-z][a-z0-9]*(?:_[a-z0-9]+)+\b", read(os.path.join(folder, f))):
+                SOURCE[plain(word)] = word
     root = f"crates/{crate}/proofs"
     for folder, dirs, files in sorted(os.walk(root)):
         if "Proof.antt" in files:

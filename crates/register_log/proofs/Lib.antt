@@ -2,4 +2,3 @@ pub mod LogLaws
 pub mod AcceptedLaws
 pub mod EncoderLaws
 pub mod ReaderLaws
-pub mod ReaderWalks

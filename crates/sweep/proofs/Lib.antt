@@ -1,2 +1,1 @@
-mod LentRecord
 pub mod SweepModulateLaws

@@ -27,7 +27,7 @@ use Rattle.sweep.specs.declared.sweep_modulate.SweepModulate.{SweepModulate}
 
 module _ (e : ℤ) {up : ℕ} (f : mag e < 128) (q : up ≡ addend (to_z w8 (of_z w8 e))) where
   pub addend-is : up ≡ addend e
-  addend-is = q ∙ ap addend (to_z-of_z (record { sfits = f }))
+  addend-is = q ∙ ap addend (to_z-of_z {w = w8} (record { sfits = f }))
 
   pub addend_small : up < 2176
   addend_small = rw addend-is (addend-lt e (record { sfits = f }))

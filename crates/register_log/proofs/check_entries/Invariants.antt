@@ -1,0 +1,13 @@
+use Prim.Native.Nat.{ℕ, ◌≤◌, ◌-◌}
+use mathlib.Core.Path.{◌≡◌, refl, ap, ◌∙◌}
+use borrow.Author.Rules.{rules}
+use native.Mathlib.Omega.{arith}
+use Rattle.register_log.proofs.LogLaws as laws
+use Rattle.register_log.specs.Log.{edition1, due_earlier, entries_answer}
+use Rattle.register_log.proofs.check_entries.Given as goal
+
+abbrev pub invariant-loop-i : goal.invariant-loop-i
+invariant-loop-i l = (l.i ≤ l.count) × (l.before ≡ due_earlier edition1 l.log l.i) × (entries_answer edition1 l.log l.cycles l.count 0 ≡ entries_answer edition1 l.log l.cycles (l.count - l.i) l.i)
+
+abbrev pub decreases-loop-i : goal.decreases-loop-i
+decreases-loop-i l = l.count - l.i
