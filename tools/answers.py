@@ -94,6 +94,7 @@ def turn(crate, names, path, keep):
         everywhere.update(w)
     needs = {plain(o): (n, at) for (o, n), at in zip(it["needs"], it["asked_at"] + [None] * len(it["needs"]))}
     uses, answers, invariants, told, lost = [], [], [], [], []
+    inlined = {}
     renamed = {}
     for b in blocks(text):
         lines = [l for l in b.split("\n")]
@@ -147,10 +148,19 @@ def turn(crate, names, path, keep):
             renamed[name] = new
             answers.append((comment + "\n" if comment else "") + f"pub {new} : goal.{new}\n{body}")
             continue
-        # a lemma of the file
+        # a lemma of the file; one over the record of a place is written where it is used
+        over = re.match(r"\(c : tie\.[^()]*\) → ([^\n]*)\n" + re.escape(name) + r" c =\s*(.*)$", rest, re.S)
+        if over:
+            inlined[name] = (paths(over.group(1), everywhere, told), paths(over.group(2), everywhere, told))
+            continue
         code = re.sub(r"tie\.(After-\S+|Then\S*|Else\S*|Start|In\S*|Loop\S*)((?: (?:Inv|μ|invariant|decreases)-\S+?(?=[ )]))*)", lambda k: "goal." + k.group(1), code)
         code = paths(code, everywhere, told)
         answers.append((comment + "\n" if comment else "") + code)
+    for _ in range(4):
+        for name, (typ, body) in inlined.items():
+            term = f"(let {name}' : {typ} = {body} in {name}')"
+            use = re.compile(r"\(" + re.escape(name) + r" c\)|(?<![\w'\-.])" + re.escape(name) + r" c(?![\w'\-.])")
+            answers = [use.sub(lambda m: term, a) for a in answers]
     goals = f"Rattle.{crate}.proofs.{path}"
     if invariants:
         kept = [u for u in uses if u.startswith("use ")]

@@ -1,0 +1,7 @@
+use native.Mathlib.Omega.{arith}
+use Rattle.recorder.proofs.RecorderLaws as laws
+use borrow.Author.Rules.{rules}
+use Rattle.recorder.proofs.put_entry.Goals as goal
+
+pub returns : goal.returns
+returns c = laws.puts-entry c.args.buffer.now (record { due = c.args.cycle; address = c.args.address; byte = c.args.byte }) c.args.index (omega (arith, c.ranges.byte)) c.entry_place-at.ensures c.put.ensures c.put-2.ensures c.put-3.ensures
