@@ -1,0 +1,6 @@
+use Rattle.leaps.proofs.ChannelEnumLaws as laws
+use borrow.Author.Rules.{rules}
+use Rattle.leaps.proofs.channel_enum.is_leapable.Goals as goal
+
+pub returns : goal.returns
+returns c = laws.leapable-is _ _ c.frequency-f.ensures c.cycles_per_frequency_tick-period.ensures c.far.ensures c.is_pitchable.ensures

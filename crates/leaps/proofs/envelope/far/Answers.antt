@@ -1,0 +1,10 @@
+use mathlib.Core.Path.{◌∙◌}
+use Rattle.leaps.proofs.EnvelopeLaws as laws
+use borrow.Author.Rules.{rules}
+use Rattle.leaps.proofs.envelope.far.Goals as goal
+
+pub returns-then-e : goal.returns-then-e
+returns-then-e c = c.short_of.ensures ∙ laws.far-on _ c.if-e.true
+
+pub returns : goal.returns
+returns c = laws.far-off _ c.if-e.false

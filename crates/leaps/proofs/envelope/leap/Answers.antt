@@ -1,0 +1,6 @@
+use Rattle.leaps.proofs.EnvelopeLaws as laws
+use borrow.Author.Rules.{rules}
+use Rattle.leaps.proofs.envelope.leap.Goals as goal
+
+pub returns : goal.returns
+returns c = laws.leap-is _ _

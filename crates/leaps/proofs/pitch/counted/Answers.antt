@@ -1,0 +1,16 @@
+use native.Mathlib.Omega.{arith}
+use Rattle.leaps.proofs.PitchLaws as laws
+use borrow.Author.Rules.{rules}
+use Rattle.leaps.proofs.pitch.counted.Goals as goal
+
+pub overflow_add-tick : goal.overflow_add-tick
+overflow_add-tick c = search (rules, laws.far-le c.requires.0)
+
+pub overflow_cast-q : goal.overflow_cast-q
+overflow_cast-q c = record { fits = omega (arith, laws.quotient_le c.requires.0 _ c.requires.1) }
+
+pub overflow_add-q : goal.overflow_add-q
+overflow_add-q c = record { fits = omega (arith, laws.quotient_le c.requires.0 _ c.requires.1, c.requires.0.counter) }
+
+pub returns : goal.returns
+returns c = laws.leap-is _ _ _

@@ -1,0 +1,13 @@
+use native.Mathlib.Omega.{arith}
+use Rattle.leaps.proofs.PitchLaws as laws
+use borrow.Author.Rules.{rules}
+use Rattle.leaps.proofs.pitch.far.Goals as goal
+
+pub overflow_mul-result : goal.overflow_mul-result
+overflow_mul-result c = record { fits = omega (arith, laws.ticks-fit c.requires c.short_of-ticks.ensures) }
+
+pub overflow_add-result : goal.overflow_add-result
+overflow_add-result c = record { fits = omega (arith, laws.ticks-fit c.requires c.short_of-ticks.ensures, c.short_of.ensures, c.requires.short) }
+
+pub returns : goal.returns
+returns c = laws.far-is c.requires c.short_of.ensures c.short_of-ticks.ensures

@@ -1,0 +1,20 @@
+use Prim.Native.Nat.{ℕ}
+use native.Mathlib.Omega.{arith}
+use Rattle.leaps.specs.Sample.{samples_on}
+use Rattle.leaps.proofs.SampleLaws as laws
+use mathlib.Core.Path.{◌≡◌, refl, ◌∙◌, ap}
+use Prim.Native.Nat.{◌≤◌, ◌-◌}
+use borrow.Author.Rules.{rules}
+use Rattle.leaps.proofs.sample.clocked.Goals as goal
+
+pub loop-i-init : goal.loop-i-init
+unfolding samples_on
+loop-i-init c = (search rules, refl)
+
+pub loop-i-preserved : goal.loop-i-preserved
+loop-i-preserved c = (search rules, laws.one_more _ _ c.loop-i.invariant.1 c.increment_sample-k.ensures)
+
+pub returns : goal.returns
+returns c =
+    let all : c.loop-i.i ≡ c.args.n = omega arith in
+    c.loop-i.invariant.1 ∙ ap (λ (k : ℕ). samples_on k c.args.kind) all

@@ -1,0 +1,10 @@
+use Rattle.leaps.proofs.SweepModulateLaws as laws
+use mathlib.Core.Path.{◌∙◌}
+use borrow.Author.Rules.{rules}
+use Rattle.leaps.proofs.sweep_modulate.far.Goals as goal
+
+pub returns-then-s : goal.returns-then-s
+returns-then-s c = c.short_of.ensures ∙ laws.far-slow _ c.if-s.true
+
+pub returns : goal.returns
+returns c = c.short_of-2.ensures ∙ laws.far-fast _ c.if-s.false

@@ -1,0 +1,7 @@
+use Rattle.table.specs.Table.{field_faulty}
+use borrow.Author.Rules.{rules}
+use Rattle.table.proofs.at_fault.Goals as goal
+
+pub returns : goal.returns
+unfolding field_faulty
+returns c = rw c.broken.ensures
