@@ -1,5 +1,5 @@
 -- The cases of the definitions of specs/Arranger.antt that the code meets, over plain variables.
-use Rattle.core.specs.Prelude.{◌≡◌, ℕ, Bool, true, false, cond, not, ◌&&◌, [], ◌∷◌}
+use Rattle.std.specs.Prelude.{◌≡◌, ℕ, Bool, true, false, cond, not, ◌&&◌, [], ◌∷◌}
 use mathlib.Core.Path.{refl, sym}
 use mathlib.Core.Bool.{true≢false}
 use mathlib.Core.Logic.{inl, inr}

@@ -1,5 +1,5 @@
 -- Where the table says yes, either order gives one state; every state in range has its channels of their kinds.
-use Rattle.core.specs.Prelude.{◌≡◌, ℕ, ◌-◌, ◌/◌, ◌%◌, ◌<◌, ◌≤◌, Bool, true, false, cond, not, ◌&&◌, ◌||◌, eqb, ltb, leb, ◌≢◌, List, [], ◌∷◌, map, length, get_or, set}
+use Rattle.std.specs.Prelude.{◌≡◌, ℕ, ◌-◌, ◌/◌, ◌%◌, ◌<◌, ◌≤◌, Bool, true, false, cond, not, ◌&&◌, ◌||◌, eqb, ltb, leb, ◌≢◌, List, [], ◌∷◌, map, length, get_or, set}
 use mathlib.Core.Path.{refl, sym, ap, subst, ◌∙◌}
 use mathlib.Core.Bool.{and-eq-true_iff, and-true, true≢false}
 use native.Mathlib.Decide.{ℕ_discrete}
@@ -18,10 +18,10 @@ use Rattle.voice.specs.declared.channel_enum.Voice.{Voice}
 use Rattle.vsu.proofs.CoreLaws.{unit-refused, write-gives}
 use Rattle.vsu.proofs.RangeLaws.{InRange, Six, range-facts, write_keeps}
 use Rattle.vsu.specs.Core.{between, decode_of, in_range, with_voices, write, write_of, write_to, written_by}
-use Rattle.vsu.specs.declared.core.Written.{Written}
-use Rattle.vsu.specs.declared.core.Register.{Register}
-use Rattle.vsu.specs.declared.core.Register.TheVariants.{Wave, Modulation, Channel, Stop, Nothing}
-use Rattle.vsu.specs.declared.core.Vsu.{Vsu}
+use Rattle.vsu.specs.declared.unit.Written.{Written}
+use Rattle.vsu.specs.declared.unit.Register.{Register}
+use Rattle.vsu.specs.declared.unit.Register.TheVariants.{Wave, Modulation, Channel, Stop, Nothing}
+use Rattle.vsu.specs.declared.unit.Vsu.{Vsu}
 use Rattle.arranger.proofs.VoiceLaws.{kept-writes, later-stays, offsets-apart, plays-stays, stop-apart}
 use Rattle.arranger.proofs.WriteLaws.{EitherOrder, dropped-swap, part-by-part, plays-at, plays-set, stopped-at, stopped-set, voices-swap}
 use Rattle.arranger.specs.Arranger.{Exchanged, OfKinds, may_exchange, is_kind, beside, beside_channel, beside_modulation, beside_stop, beside_wave, kept}

@@ -1,5 +1,5 @@
 -- Over a log: two neighbouring entries that are due at one cycle and may be exchanged, exchanged.
-use Rattle.core.specs.Prelude.{◌≡◌, ℕ, zero, suc, ◌+◌, ◌-◌, ◌<◌, Bool, true, false, cond, eqb, List, [], ◌∷◌, ◌++◌, length, get_or}
+use Rattle.std.specs.Prelude.{◌≡◌, ℕ, zero, suc, ◌+◌, ◌-◌, ◌<◌, Bool, true, false, cond, eqb, List, [], ◌∷◌, ◌++◌, length, get_or}
 use mathlib.Core.Path.{refl, sym, ap, ap₂, ◌∙◌}
 use native.Mathlib.Omega.{arith}
 use Rattle.laws.proofs.Cases.{ways}
@@ -12,8 +12,8 @@ use Rattle.register_log.specs.declared.Checked.TheVariants as checked
 use Rattle.register_log.specs.declared.Write.{Write}
 use Rattle.vsu.proofs.RangeLaws.{write_keeps}
 use Rattle.vsu.specs.Core.{cycle, in_range, made, with_mutes, write}
-use Rattle.vsu.specs.declared.core.Frame.{Frame}
-use Rattle.vsu.specs.declared.core.Vsu.{Vsu}
+use Rattle.vsu.specs.declared.unit.Frame.{Frame}
+use Rattle.vsu.specs.declared.unit.Vsu.{Vsu}
 use Rattle.arranger.proofs.ExchangeLaws.{in-range-kinds, may-exchange}
 use Rattle.arranger.specs.Arranger.{may_exchange}
 

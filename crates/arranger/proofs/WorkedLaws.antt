@@ -1,5 +1,5 @@
 -- Where the table says no, the worked state is in range, and the two orders of the writes differ on it.
-use Rattle.core.specs.Prelude.{◌≡◌, ℕ, zero, suc, ◌-◌, ◌%◌, ◌<◌, ◌≤◌, Bool, true, false, cond, not, ◌&&◌, ◌||◌, eqb, List, [], ◌∷◌, map, length, get_or, set, ℤ, pos, negsuc}
+use Rattle.std.specs.Prelude.{◌≡◌, ℕ, zero, suc, ◌-◌, ◌%◌, ◌<◌, ◌≤◌, Bool, true, false, cond, not, ◌&&◌, ◌||◌, eqb, List, [], ◌∷◌, map, length, get_or, set, ℤ, pos, negsuc}
 use mathlib.Core.Path.{refl, sym, ap, ap₂, subst, ◌∙◌}
 use mathlib.Core.Bool.{true≢false}
 use native.Mathlib.Omega.{arith}
@@ -16,9 +16,9 @@ use Rattle.voice.specs.ChannelEnum.{stop_voice, voice_write}
 use Rattle.voice.specs.declared.channel_enum.Voice.{Voice}
 use Rattle.vsu.proofs.RangeLaws.{InRange, power-on-in-range, range-facts, write_keeps}
 use Rattle.vsu.specs.Core.{between, decode_of, in_range, power_on, with_modulation, with_voices, with_waves, write, write_to}
-use Rattle.vsu.specs.declared.core.Register.{Register}
-use Rattle.vsu.specs.declared.core.Register.TheVariants.{Wave, Modulation, Channel, Stop, Nothing}
-use Rattle.vsu.specs.declared.core.Vsu.{Vsu}
+use Rattle.vsu.specs.declared.unit.Register.{Register}
+use Rattle.vsu.specs.declared.unit.Register.TheVariants.{Wave, Modulation, Channel, Stop, Nothing}
+use Rattle.vsu.specs.declared.unit.Vsu.{Vsu}
 use Rattle.arranger.proofs.VoiceLaws.{later-stays, on-bytes, plays-written, read, reads-back}
 use Rattle.arranger.proofs.WriteLaws.{EitherOrder, entries-agree, plays-set, plays-there, stopped-at, stopped-plays, voice-twice, voices-agree, voices_by, waves-agree}
 use Rattle.arranger.proofs.ExchangeLaws.{Fits, at_most, decode-fits, in-range-kinds, may-exchange}

@@ -1,5 +1,5 @@
 -- What two writes to the unit come to, part by part of its state: the voices, the waves, the modulation entries.
-use Rattle.core.specs.Prelude.{◌≡◌, ℕ, zero, suc, ◌-◌, ◌/◌, ◌%◌, ◌<◌, ◌≤◌, Bool, true, false, cond, ◌||◌, ltb, ◌≢◌, List, [], ◌∷◌, map, length, set, ℤ}
+use Rattle.std.specs.Prelude.{◌≡◌, ℕ, zero, suc, ◌-◌, ◌/◌, ◌%◌, ◌<◌, ◌≤◌, Bool, true, false, cond, ◌||◌, ltb, ◌≢◌, List, [], ◌∷◌, map, length, set, ℤ}
 use mathlib.Core.Path.{refl, sym, ap, ◌∙◌}
 use mathlib.Core.Bool.{or-true}
 use mathlib.Core.List.{map-map}
@@ -13,9 +13,9 @@ use Rattle.voice.specs.ChannelEnum.{stop_voice, voice_write}
 use Rattle.voice.specs.declared.channel_enum.Voice.{Voice}
 use Rattle.vsu.proofs.CoreLaws.{decode-channel}
 use Rattle.vsu.specs.Core.{decode_of, with_modulation, with_voices, with_waves, write, write_to}
-use Rattle.vsu.specs.declared.core.Register.{Register}
-use Rattle.vsu.specs.declared.core.Register.TheVariants.{Wave, Modulation, Channel, Stop, Nothing}
-use Rattle.vsu.specs.declared.core.Vsu.{Vsu}
+use Rattle.vsu.specs.declared.unit.Register.{Register}
+use Rattle.vsu.specs.declared.unit.Register.TheVariants.{Wave, Modulation, Channel, Stop, Nothing}
+use Rattle.vsu.specs.declared.unit.Vsu.{Vsu}
 use Rattle.arranger.proofs.VoiceLaws.{later-stays}
 use Rattle.arranger.specs.Arranger.{Exchanged}
 

@@ -1,12 +1,12 @@
 -- "The arranger program reorders writes due at one cycle, and its author wants to know when that is harmless."
-use Rattle.core.specs.Prelude.{◌≡◌, ℕ, ◌+◌, ◌-◌, ◌*◌, ◌%◌, ◌<◌, Bool, true, false, cond, not, ◌&&◌, ◌||◌, ◌==◌, nat_lt}
+use Rattle.std.specs.Prelude.{◌≡◌, ℕ, ◌+◌, ◌-◌, ◌*◌, ◌%◌, ◌<◌, Bool, true, false, cond, not, ◌&&◌, ◌||◌, ◌==◌, nat_lt}
 use Rattle.common.specs.Bits.{bits, bit}
 use Rattle.voice.specs.declared.channel_enum.Kind.{Kind}
 use Rattle.voice.specs.declared.channel_enum.Kind.TheVariants as kinds
 use Rattle.vsu.specs.Core.{decode_of, power_on, voice_at, write}
-use Rattle.vsu.specs.declared.core.Register.{Register}
-use Rattle.vsu.specs.declared.core.Register.TheVariants.{Wave, Modulation, Channel, Stop, Nothing}
-use Rattle.vsu.specs.declared.core.Vsu.{Vsu}
+use Rattle.vsu.specs.declared.unit.Register.{Register}
+use Rattle.vsu.specs.declared.unit.Register.TheVariants.{Wave, Modulation, Channel, Stop, Nothing}
+use Rattle.vsu.specs.declared.unit.Vsu.{Vsu}
 use Rattle.arranger.specs.declared.Lead.{Lead}
 use Rattle.arranger.specs.declared.Lead.TheVariants.{PowerOn, Filled, Playing}
 

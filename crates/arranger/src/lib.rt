@@ -1,14 +1,14 @@
 // When two register writes that are due at one cycle may be exchanged, for the arranger program.
 #![tactic(auto)]
 
-ghost use Rattle.core.specs.Prelude.{◌≡◌, ◌+◌, ◌*◌, if◌then◌else◌, nat_lt};
+ghost use Rattle.std.specs.Prelude.{◌≡◌, ◌+◌, ◌*◌, if◌then◌else◌, nat_lt};
 ghost use Rattle.common.specs.Bits.{bits};
 ghost use Rattle.arranger.specs.Arranger.{kept, beside_wave, beside_modulation, beside_channel, beside_stop, may_exchange, dropped, lead_to, lead_of};
 ghost use Rattle.vsu.specs.Core.{decode_of};
 
 use common::bits;
-use vsu::core;
-use vsu::core::Register;
+use vsu::unit;
+use vsu::unit::Register;
 
 // What leads from power-on to a state on which the order shows: nothing; a byte to an address; that, and then 0x80 to `start`.
 #[derive(Clone, Copy)]
@@ -104,12 +104,12 @@ fn beside_stop(byte: u8, other: Register, value: u8) -> bool
     }
 }
 
-// Whether either order of the two writes, by `vsu::core::write`, gives one state, whatever the state before them.
+// Whether either order of the two writes, by `vsu::unit::write`, gives one state, whatever the state before them.
 pub fn may_exchange(address: u32, byte: u8, other: u32, value: u8) -> bool
     ensures { result ≡ may_exchange address byte other value }
 {
-    let r = core::decode(address);
-    let s = core::decode(other);
+    let r = unit::decode(address);
+    let s = unit::decode(other);
     match r {
         Register::Wave(at) => beside_wave(at, byte, s, value),
         Register::Modulation(at) => beside_modulation(at, byte, s, value),
@@ -122,7 +122,7 @@ pub fn may_exchange(address: u32, byte: u8, other: u32, value: u8) -> bool
 fn dropped(address: u32) -> bool
     ensures { result ≡ dropped (decode_of address) }
 {
-    let r = core::decode(address);
+    let r = unit::decode(address);
     match r {
         Register::Wave(_) => true,
         Register::Modulation(_) => true,

@@ -11,8 +11,8 @@ mod logs;
 
 use libc::{STDIN_FILENO, STDOUT_FILENO};
 use report::sum::of_frames;
-use vsu::core;
-use vsu::core::{Ran, Vsu};
+use vsu::unit;
+use vsu::unit::{Ran, Vsu};
 
 #[derive(Clone, Copy)]
 struct Timed {
@@ -50,7 +50,7 @@ fn start() -> [u8; 16] {
 }
 
 fn set(u: Vsu, address: u32, value: u8) -> Vsu {
-    let m = core::write(u, address, value);
+    let m = unit::write(u, address, value);
     let s = m.state;
     s
 }
@@ -98,7 +98,7 @@ fn voice(u: Vsu, channel: u32) -> Vsu {
 }
 
 fn ready() -> Timed {
-    let mut u = modulation(waves(core::new()));
+    let mut u = modulation(waves(unit::new()));
     let mut c: u32 = 0;
     while c < 6 {
         u = voice(u, c);
@@ -156,7 +156,7 @@ fn run(t: Timed, n: u32, quickly: bool, out: &mut [i16; 16384]) -> Timed {
         let m = quick::run(u, n, out);
         return summed(m, t.sum, out);
     }
-    let m = core::run(u, n, out);
+    let m = unit::run(u, n, out);
     summed(m, t.sum, out)
 }
 

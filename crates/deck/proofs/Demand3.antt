@@ -1,7 +1,7 @@
 -- Demand 3: after any play, seek, set, clear, go-to-mark and mute calls from a fresh opening, refused ones among them, the player
 -- stands at the cycle the calls name, in the state that one unbroken run from power-on, cycle by cycle, has there, all but the mute
 -- bits. Each accepted play yields exactly that run's frames in its span, with the present mutes.
-use Rattle.core.specs.Prelude.{◌≡◌, ℕ, ◌+◌, ◌-◌, ◌*◌, ◌/◌, ◌<◌, ◌≤◌, Bool, true, false, cond, not, ◌||◌, eqb, ltb, leb, List, [], ◌∷◌, ◌++◌, length, take, drop, ℤ}
+use Rattle.std.specs.Prelude.{◌≡◌, ℕ, ◌+◌, ◌-◌, ◌*◌, ◌/◌, ◌<◌, ◌≤◌, Bool, true, false, cond, not, ◌||◌, eqb, ltb, leb, List, [], ◌∷◌, ◌++◌, length, take, drop, ℤ}
 use Prim.Native.Nat.{suc-le-suc}
 use mathlib.Core.Path.{refl, sym, ap, ap₂, subst, ◌∙◌}
 use mathlib.Core.Bool.{true≢false}
@@ -30,8 +30,8 @@ use Rattle.refusal.specs.declared.Refusal.{Refusal}
 use Rattle.refusal.specs.declared.Refusal.TheVariants.{Room, Place, MarkNumber, MarkUnset, MarksFull}
 use Rattle.refusal.proofs.RefusalLaws.{passed, was-sound}
 use Rattle.vsu.specs.Core.{all_at_most, frames_due, in_range, power_on, sides, unit_answer, with_mutes}
-use Rattle.vsu.specs.declared.core.Frame.{Frame}
-use Rattle.vsu.specs.declared.core.Vsu.{Vsu}
+use Rattle.vsu.specs.declared.unit.Frame.{Frame}
+use Rattle.vsu.specs.declared.unit.Vsu.{Vsu}
 use Rattle.vsu.proofs.RangeLaws.{range-facts, small_at}
 use Rattle.deck.specs.Calls.{AllSpare, Call, Deck, InRun, Named, Spares, after, after_all, answer_at, answer_of, at_cycle, at_start, named_all, named_by, names, opened, set_now, yields, yields_count, yields_counts, yields_entries}
 use Rattle.deck.specs.Calls.Call.{play, seek, set_mark, set_free, clear, go_to, mute}

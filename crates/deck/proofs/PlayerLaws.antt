@@ -1,5 +1,5 @@
 -- What an accepted call has passed, row by row of its order.
-use Rattle.core.specs.Prelude.{◌≡◌, ℕ, ◌+◌, ◌-◌, ◌/◌, ◌≤◌, true, false, not, eqb, ltb, leb, List, [], ◌∷◌, length, drop}
+use Rattle.std.specs.Prelude.{◌≡◌, ℕ, ◌+◌, ◌-◌, ◌/◌, ◌≤◌, true, false, not, eqb, ltb, leb, List, [], ◌∷◌, length, drop}
 use mathlib.Core.Path.{sym, ap, ◌∙◌}
 use borrow.Author.Tests.{eqb-true, leb-true, ltb-false, not-false}
 use lib.ListN.{length-drop}
@@ -18,7 +18,7 @@ use Rattle.refusal.specs.declared.Refusal.{Refusal}
 use Rattle.refusal.specs.declared.Refusal.TheVariants.{State, Room, BeyondEnd, Place, MarkNumber, MarkUnset}
 use Rattle.table.specs.Table.{newest}
 use Rattle.vsu.specs.Core.{fits_in, frames_due, in_range, unit_answer}
-use Rattle.vsu.specs.declared.core.Vsu.{Vsu}
+use Rattle.vsu.specs.declared.unit.Vsu.{Vsu}
 use Rattle.image.specs.declared.Loaded.{Loaded}
 use Rattle.deck.specs.Player.{clear_answer, go_to_answer, image_place, length_in, memory_size, misplaced, mute_answer, play_answer, seek_answer, set_answer, slot_image, slot_place, slot_size, standing_answer, writes_in}
 use Rattle.deck.specs.declared.Player.{Player}

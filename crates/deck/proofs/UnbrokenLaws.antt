@@ -1,5 +1,5 @@
 -- The unbroken run: in two spans; how many writes are due; a state in range stays in range; the output counter and the number of frames.
-use Rattle.core.specs.Prelude.{◌≡◌, ℕ, zero, suc, ◌+◌, ◌/◌, ◌%◌, ◌<◌, ◌≤◌, Bool, true, false, cond, eqb, ltb, List, [], ◌∷◌, ◌++◌, length, get_or}
+use Rattle.std.specs.Prelude.{◌≡◌, ℕ, zero, suc, ◌+◌, ◌/◌, ◌%◌, ◌<◌, ◌≤◌, Bool, true, false, cond, eqb, ltb, List, [], ◌∷◌, ◌++◌, length, get_or}
 use mathlib.Core.Path.{refl, sym, ap, ap₂, ◌∙◌}
 use mathlib.Core.List.{append_assoc, append-nil}
 use native.Mathlib.Nat.{add_assoc, add-sub_cancel_left, add-zero, add-suc, zero-add}
@@ -17,12 +17,12 @@ use Rattle.six.specs.Core.{any_plays, plays, voice_at}
 use Rattle.vsu.proofs.CoreLaws.{says-accepted}
 use Rattle.refusal.specs.declared.Answer.TheVariants.{Accepted}
 use Rattle.vsu.specs.Core.{all_at_most, cycle, decode_of, frames, frames_due, in_range, made, power_on, run, said_answer, says, with_mutes, write, write_to}
-use Rattle.vsu.specs.declared.core.Said.{Said}
-use Rattle.vsu.specs.declared.core.Said.TheVariants as said
-use Rattle.vsu.specs.declared.core.Frame.{Frame}
-use Rattle.vsu.specs.declared.core.Register.{Register}
-use Rattle.vsu.specs.declared.core.Register.TheVariants as registers
-use Rattle.vsu.specs.declared.core.Vsu.{Vsu}
+use Rattle.vsu.specs.declared.unit.Said.{Said}
+use Rattle.vsu.specs.declared.unit.Said.TheVariants as said
+use Rattle.vsu.specs.declared.unit.Frame.{Frame}
+use Rattle.vsu.specs.declared.unit.Register.{Register}
+use Rattle.vsu.specs.declared.unit.Register.TheVariants as registers
+use Rattle.vsu.specs.declared.unit.Vsu.{Vsu}
 use Rattle.deck.specs.Unbroken.{Moment, apply_at, counts_of, frames_in, frames_of, frames_on, how_many, in_all, is_held, is_none, is_taken, moments_at, moments_in, moments_of, moments_on, run_on, state_at}
 
 -- two spans are one

@@ -2,7 +2,7 @@
 -- stands at the cycle the calls name, in the state that one unbroken run from power-on, cycle by cycle, has there, all but the mute
 -- bits, which are those of the last mute call. Each accepted play yields exactly that run's frames in its span, with the present
 -- mutes, and counts that run's entries in it by what they say.
-use Rattle.core.specs.Prelude.{◌≡◌, ℕ, ◌+◌, ◌-◌, ◌*◌, ◌/◌, cond, not, List, [], ◌∷◌, ◌++◌, length, drop, ℤ, ◌==◌, nat_le, nat_lt}
+use Rattle.std.specs.Prelude.{◌≡◌, ℕ, ◌+◌, ◌-◌, ◌*◌, ◌/◌, cond, not, List, [], ◌∷◌, ◌++◌, length, drop, ℤ, ◌==◌, nat_le, nat_lt}
 use Rattle.register_log.specs.Log.{due_before}
 use Rattle.register_log.specs.declared.Write.{Write}
 use Rattle.refusal.specs.Refusal.{fault, ◌then◌}

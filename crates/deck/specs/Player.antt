@@ -1,6 +1,6 @@
 -- The player, in document 01's words: a record, and the calls. Each call has one order of refusals, and by its first fault, or none,
 -- one definition gives the record, the count, the answer and what the lent memory holds afterwards.
-use Rattle.core.specs.Prelude.{ℕ, ◌+◌, ◌-◌, ◌*◌, Bool, cond, not, ◌&&◌, List, ◌++◌, length, take, drop, ℤ, ◌==◌, nat_le, nat_lt}
+use Rattle.std.specs.Prelude.{ℕ, ◌+◌, ◌-◌, ◌*◌, Bool, cond, not, ◌&&◌, List, ◌++◌, length, take, drop, ℤ, ◌==◌, nat_le, nat_lt}
 use Rattle.std.proofs.lemmas.List.Edits.{sets}
 use Rattle.little.specs.Little.{bytes, number}
 use Rattle.register_log.specs.Log.{checked_by, count_of, cycles_of, due_before, edition1, log_answer, writes_of}

@@ -1,12 +1,12 @@
 -- The run of demand 3, over writes: "At cycle T, exactly the entries due before T have been applied; one due at T goes in before cycle
 -- T + 1 runs."
-use Rattle.core.specs.Prelude.{ℕ, zero, suc, ◌+◌, ◌-◌, Bool, true, false, cond, List, [], ◌∷◌, ◌++◌, ◌==◌}
+use Rattle.std.specs.Prelude.{ℕ, zero, suc, ◌+◌, ◌-◌, Bool, true, false, cond, List, [], ◌∷◌, ◌++◌, ◌==◌}
 use Rattle.register_log.specs.declared.Write.{Write}
 use Rattle.vsu.specs.Core.{cycle, made, power_on, says, with_mutes, write}
-use Rattle.vsu.specs.declared.core.Frame.{Frame}
-use Rattle.vsu.specs.declared.core.Said.{Said}
-use Rattle.vsu.specs.declared.core.Said.TheVariants.{Taken, Held, NoRegister, Refused}
-use Rattle.vsu.specs.declared.core.Vsu.{Vsu}
+use Rattle.vsu.specs.declared.unit.Frame.{Frame}
+use Rattle.vsu.specs.declared.unit.Said.{Said}
+use Rattle.vsu.specs.declared.unit.Said.TheVariants.{Taken, Held, NoRegister, Refused}
+use Rattle.vsu.specs.declared.unit.Vsu.{Vsu}
 use Rattle.deck.specs.declared.Counts.{Counts}
 
 -- the writes due at a cycle, "in file order"

@@ -2,7 +2,7 @@
 #![tactic(auto)]
 
 use refusal::Answer;
-use vsu::core::Vsu;
+use vsu::unit::Vsu;
 
 // "slot k at 428 × k is u32 cycle, u32 applied, image; 6,848 bytes in all"
 pub const SLOT_SIZE: usize = 428;

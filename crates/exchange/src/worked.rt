@@ -1,7 +1,7 @@
 // The states that the two orders make, as images, and where these differ.
 use crate::pair::Pair;
 use arranger::Lead;
-use vsu::core;
+use vsu::unit;
 
 // The lowest byte that differs: its number, and its values in the order as given and in the other.
 #[derive(Clone, Copy)]
@@ -14,11 +14,11 @@ pub(crate) enum Difference {
 // A byte to an address, 0x80 to `start`, and then the pair. The one function over a unit, and without a loop: such functions are what costs
 // the prover most.
 fn image_after(address: u32, byte: u8, start: u32, p: Pair) -> [u8; 420] {
-    let on = core::new();
-    let a = core::write(on, address, byte);
-    let b = core::write(a.state, start, 0x80);
-    let c = core::write(b.state, p.address, p.byte);
-    let d = core::write(c.state, p.other, p.value);
+    let on = unit::new();
+    let a = unit::write(on, address, byte);
+    let b = unit::write(a.state, start, 0x80);
+    let c = unit::write(b.state, p.address, p.byte);
+    let d = unit::write(c.state, p.other, p.value);
     let mut image = [0u8; 420];
     image::write_image(d.state, &mut image);
     image

@@ -1,5 +1,5 @@
 -- The values of any edition as the newest's: the state that they make, its range and its values are the newest's.
-use Rattle.core.specs.Prelude.{◌≡◌, ℕ, zero, suc, ◌+◌, ◌-◌, ◌<◌, ◌≤◌, Bool, true, false, ◌&&◌, ◌||◌, eqb, ltb, leb, List, [], ◌∷◌, ◌++◌, length, get_or, take, drop, set, replicate}
+use Rattle.std.specs.Prelude.{◌≡◌, ℕ, zero, suc, ◌+◌, ◌-◌, ◌<◌, ◌≤◌, Bool, true, false, ◌&&◌, ◌||◌, eqb, ltb, leb, List, [], ◌∷◌, ◌++◌, length, get_or, take, drop, set, replicate}
 use mathlib.Core.Path.{refl, sym, ap, ◌∙◌, fun_ext}
 use native.Mathlib.Nat.{le_trans}
 use native.Mathlib.Omega.{arith}

@@ -1,5 +1,5 @@
 -- The values of a state in range: none is at fault, each has room in its field, and the state that they make is that state.
-use Rattle.core.specs.Prelude.{◌≡◌, ℕ, zero, suc, ◌+◌, ◌-◌, ◌%◌, ◌^◌, ◌<◌, ◌≤◌, Bool, true, false, not, ◌&&◌, eqb, ltb, leb, List, [], ◌∷◌, ◌++◌, map, length, get_or, take, drop, replicate, ℤ, pos, negsuc}
+use Rattle.std.specs.Prelude.{◌≡◌, ℕ, zero, suc, ◌+◌, ◌-◌, ◌%◌, ◌^◌, ◌<◌, ◌≤◌, Bool, true, false, not, ◌&&◌, eqb, ltb, leb, List, [], ◌∷◌, ◌++◌, map, length, get_or, take, drop, replicate, ℤ, pos, negsuc}
 use mathlib.Core.Path.{refl, sym, ap, ◌∙◌, fun_ext}
 use mathlib.Core.Bool.{beq}
 use mathlib.Core.List.{append-nil}
@@ -22,7 +22,7 @@ use Rattle.voice.specs.declared.channel_enum.Kind.TheVariants.{Wave, Swept, Nois
 use Rattle.voice.specs.declared.channel_enum.Voice.{Voice}
 use Rattle.vsu.proofs.RangeLaws.{InRange}
 use Rattle.vsu.specs.Core.{all_at_most, all_bytes, voice_at}
-use Rattle.vsu.specs.declared.core.Vsu.{Vsu}
+use Rattle.vsu.specs.declared.unit.Vsu.{Vsu}
 use Rattle.table.proofs.TableLaws.{at, below, code, same-own}
 use Rattle.table.specs.Table.{broken_by, cell_at, faulty_at, field_faulty, number2, header, most_in, newest, own_of, part_in, part_of, row_in}
 use Rattle.table.specs.declared.Cell.{Cell}

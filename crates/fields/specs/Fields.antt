@@ -1,5 +1,5 @@
 -- A state as the list of its fields' values, in rising order of their offsets, and back.
-use Rattle.core.specs.Prelude.{ℕ, ◌+◌, ◌-◌, ◌*◌, ◌%◌, Bool, cond, List, [], ◌∷◌, ◌++◌, map, take, drop, ℤ, pos, negsuc, ◌==◌, slice_index}
+use Rattle.std.specs.Prelude.{ℕ, ◌+◌, ◌-◌, ◌*◌, ◌%◌, Bool, cond, List, [], ◌∷◌, ◌++◌, map, take, drop, ℤ, pos, negsuc, ◌==◌, slice_index}
 use Rattle.common.specs.Bits.{bit, signed}
 use Rattle.common.specs.declared.channel.Channel.{Channel}
 use Rattle.common.specs.declared.channel.Envelope.{Envelope}
@@ -11,7 +11,7 @@ use Rattle.voice.specs.declared.channel_enum.Kind.TheVariants.{Wave, Swept, Nois
 use Rattle.voice.specs.declared.channel_enum.Voice.{Voice}
 use Rattle.sweep.specs.declared.sweep_modulate.SweepModulate.{SweepModulate}
 use Rattle.vsu.specs.Core.{voice_at}
-use Rattle.vsu.specs.declared.core.Vsu.{Vsu}
+use Rattle.vsu.specs.declared.unit.Vsu.{Vsu}
 use Rattle.table.specs.Table.{Edition, channel_from, modulation_from, mutes_field, output_field, sweep_from, waves_from}
 
 -- From a state to its values.

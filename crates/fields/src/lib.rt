@@ -1,7 +1,7 @@
 // A state as the values of its fields, and back.
 #![tactic(auto)]
 
-ghost use Rattle.core.specs.Prelude.{◌≡◌, ◌+◌, ◌*◌, ◌<◌, ◌≤◌, map, length, take, drop, slice_index};
+ghost use Rattle.std.specs.Prelude.{◌≡◌, ◌+◌, ◌*◌, ◌<◌, ◌≤◌, map, length, take, drop, slice_index};
 ghost use Rattle.std.proofs.lemmas.List.Edits.{sets};
 ghost use Rattle.table.specs.Table.{channel_fields, channel_from, modulation_from, newest, sweep_from, waves_from};
 ghost use Rattle.fields.specs.Fields.{bit_of, flags_of, byte_of, ninth_of, tenth_of, shift_of, voice_fields, blocks_of, tail_fields, header_fields, fields_of, live_by, pitch_by, envelope_by, channel_by, sweep_by, wave_by, swept_by, noise_by, from, voices_by, state_of, byte, half, entry_by};
@@ -13,7 +13,7 @@ use table::{
     CHANNEL_FIELDS, CHANNELS, FIELDS, MODULATION, MUTES, NEWEST, NOISE, OUTPUT, SWEEP, WAVES,
 };
 use voice::channel_enum::{Kind, Voice};
-use vsu::core::Vsu;
+use vsu::unit::Vsu;
 
 fn wide8(x: u8) -> u32
     ensures { result ≡ x }

@@ -6,28 +6,28 @@ use refusal::Answer;
 use report::print;
 use report::sum::side;
 use voice::channel_enum::Kind;
-use vsu::core;
-use vsu::core::Vsu;
+use vsu::unit;
+use vsu::unit::Vsu;
 
 fn text(t: &[u8]) {
     io::write_all(STDOUT_FILENO, t);
 }
 
 fn set(u: Vsu, address: u32, value: u8) -> Vsu {
-    let m = core::write(u, address, value);
+    let m = unit::write(u, address, value);
     let s = m.state;
     s
 }
 
 fn after(u: Vsu, n: u32) -> Vsu {
-    let m = core::advance(u, n);
+    let m = unit::advance(u, n);
     let s = m.state;
     s
 }
 
 fn frames(n: u32) {
     let mut out = [0i16; 4];
-    let r = core::run(core::new(), n, &mut out);
+    let r = unit::run(unit::new(), n, &mut out);
     print::line(b"# cycles # frames\n", &[n as u64, r.frames as u64]);
 }
 
@@ -58,7 +58,7 @@ fn frequency(u: Vsu) -> u16 {
 }
 
 fn moves(before: u32, then: u32) {
-    let u = set(core::new(), 0x400, 0x80);
+    let u = set(unit::new(), 0x400, 0x80);
     let f = frequency(u);
     let p = position(after(u, before));
     let q = position(after(u, then));
@@ -84,7 +84,7 @@ fn plays(so: bool) {
 }
 
 fn stops(what: &[u8], value: u8, before: u32, then: u32) {
-    let u = set(core::new(), 0x400, value);
+    let u = set(unit::new(), 0x400, value);
     let a = playing(after(u, before));
     let b = playing(after(u, then));
     text(what);
@@ -124,7 +124,7 @@ fn written(u: Vsu) -> u16 {
 }
 
 fn acts(before: u32, then: u32) {
-    let u = set(set(core::new(), 0x508, 0x55), 0x50C, 0x05);
+    let u = set(set(unit::new(), 0x508, 0x55), 0x50C, 0x05);
     let f = written(u);
     let p = current(after(u, before));
     let q = current(after(u, then));
@@ -143,7 +143,7 @@ fn frame(cycle: u32, left: i16, right: i16) {
 
 // The four writes of document 01's own log.
 fn own_log() -> Vsu {
-    let a = set(core::new(), 0x000, 0x3F);
+    let a = set(unit::new(), 0x000, 0x3F);
     let b = set(a, 0x404, 0xF0);
     let c = set(b, 0x410, 0xF0);
     set(c, 0x400, 0x80)
@@ -152,7 +152,7 @@ fn own_log() -> Vsu {
 // Its frames from one run.
 fn whole(n: u32) {
     let mut out = [0i16; 4];
-    let r = core::run(own_log(), n, &mut out);
+    let r = unit::run(own_log(), n, &mut out);
     print::line(
         b"own log: # cycles # frames\n",
         &[n as u64, r.frames as u64],
@@ -162,7 +162,7 @@ fn whole(n: u32) {
 // One cycle, and its frame if it made one.
 fn one(u: Vsu, cycle: u32) -> Vsu {
     let mut out = [0i16; 2];
-    let r = core::run(u, 1, &mut out);
+    let r = unit::run(u, 1, &mut out);
     if r.frames == 1 {
         let o = out;
         frame(cycle, o[0], o[1]);
@@ -214,7 +214,7 @@ fn buffer(out: &[i16]) {
 }
 
 fn beyond() -> Vsu {
-    let mut u = core::new();
+    let mut u = unit::new();
     u.output = 480;
     u
 }
@@ -226,7 +226,7 @@ fn told(what: &[u8], a: Answer, output: u32) {
 }
 
 fn run_beyond(out: &mut [i16]) {
-    let r = core::run(beyond(), 480, out);
+    let r = unit::run(beyond(), 480, out);
     let a = r.answer;
     let s = r.state;
     told(b"run of output 480: ", a, s.output);
@@ -234,16 +234,16 @@ fn run_beyond(out: &mut [i16]) {
 }
 
 fn write_beyond() {
-    let m = core::write(beyond(), 0x580, 1);
+    let m = unit::write(beyond(), 0x580, 1);
     let said = m.said;
-    let a = core::answer_in(said);
+    let a = unit::answer_in(said);
     let s = m.state;
     told(b"write to output 480: ", a, s.output);
     text(b"\n");
 }
 
 fn advance_beyond() {
-    let m = core::advance(beyond(), 480);
+    let m = unit::advance(beyond(), 480);
     let a = m.answer;
     let s = m.state;
     told(b"advance of output 480: ", a, s.output);
@@ -252,7 +252,7 @@ fn advance_beyond() {
 
 // A run from power-on into the room that `out` is.
 fn room(n: u32, out: &mut [i16]) {
-    let r = core::run(core::new(), n, out);
+    let r = unit::run(unit::new(), n, out);
     let a = r.answer;
     print::line(b"# cycles into # sides: ", &[n as u64, out.len() as u64]);
     answer(a);

@@ -6,8 +6,8 @@ use libc::STDOUT_FILENO;
 use register_log::Write;
 use report::progress;
 use std::num;
-use vsu::core;
-use vsu::core::Said;
+use vsu::unit;
+use vsu::unit::Said;
 
 // The most cycles of one call of the unit, so that a long way can be told between two.
 const PIECE: u32 = 10_000_000;
@@ -65,7 +65,7 @@ pub(crate) fn through(log: &[u8], count: u32, cycles: u32) -> bool {
         none: 0,
         written: true,
     };
-    let mut unit = core::new();
+    let mut unit = unit::new();
     let mut cycle: u32 = 0;
     let mut told = 100;
     let mut i: u32 = 0;
@@ -79,7 +79,7 @@ pub(crate) fn through(log: &[u8], count: u32, cycles: u32) -> bool {
             cycle += n;
             told = shown(told, cycle, cycles);
         } else {
-            let m = core::write(unit, w.address as u32, w.byte);
+            let m = unit::write(unit, w.address as u32, w.byte);
             let said = m.said;
             unit = m.state;
             h = counted(h, i, w, said);

@@ -1,5 +1,5 @@
 -- What `write_image` and `read_image` answer and leave: one law for a refusal, one for the call accepted.
-use Rattle.core.specs.Prelude.{◌≡◌, ℕ, ◌+◌, ◌-◌, ◌<◌, ◌≤◌, true, false, not, ltb, List, [], ◌++◌, length, drop, replicate}
+use Rattle.std.specs.Prelude.{◌≡◌, ℕ, ◌+◌, ◌-◌, ◌<◌, ◌≤◌, true, false, not, ltb, List, [], ◌++◌, length, drop, replicate}
 use mathlib.Core.Path.{refl, sym, ap, ◌∙◌}
 use native.Mathlib.Omega.{arith}
 use borrow.Author.Tests.{le-ltb, lt-ltb}
@@ -15,7 +15,7 @@ use Rattle.refusal.specs.declared.Refusal.TheVariants.{ImageSize, Room, State}
 use Rattle.table.specs.Table.{field_count, known_edition, newest}
 use Rattle.table.specs.declared.Known.{Known}
 use Rattle.vsu.specs.Core.{in_range, unit_answer}
-use Rattle.vsu.specs.declared.core.Vsu.{Vsu}
+use Rattle.vsu.specs.declared.unit.Vsu.{Vsu}
 use Rattle.image.specs.Image.{bytes_of, edition_in, fields_answer, fields_in, image_answer, image_of, known_in, loaded_by, read_answer, read_of, written_by, written_of}
 use Rattle.image.specs.declared.Loaded.{Loaded}
 use Rattle.image.proofs.ImageLaws.{answer-same, values_length}

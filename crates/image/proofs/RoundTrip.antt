@@ -1,6 +1,6 @@
 -- The image both ways: a state in range written as an image reads back equal; an accepted image is a state in range and writes back,
 -- by the newest edition, to the same bytes but for the edition's number; a refused one's number and offset are the lowest fault's.
-use Rattle.core.specs.Prelude.{◌≡◌, ℕ, zero, suc, ◌+◌, ◌-◌, ◌*◌, ◌^◌, ◌<◌, ◌≤◌, Bool, true, false, cond, not, ◌&&◌, eqb, ltb, leb, List, [], ◌∷◌, ◌++◌, length, get_or, take, drop, set}
+use Rattle.std.specs.Prelude.{◌≡◌, ℕ, zero, suc, ◌+◌, ◌-◌, ◌*◌, ◌^◌, ◌<◌, ◌≤◌, Bool, true, false, cond, not, ◌&&◌, eqb, ltb, leb, List, [], ◌∷◌, ◌++◌, length, get_or, take, drop, set}
 use Prim.Native.Nat.{suc-le-suc}
 use mathlib.Core.Path.{refl, sym, ap, subst, ◌∙◌}
 use mathlib.Core.Bool.{true≢false}
@@ -27,7 +27,7 @@ use Rattle.table.specs.declared.Known.TheVariants.{First, Second}
 use Rattle.table.specs.declared.Own.TheVariants.{Exactly}
 use Rattle.vsu.proofs.RangeLaws.{range-facts, small_at}
 use Rattle.vsu.specs.Core.{all_at_most, in_range}
-use Rattle.vsu.specs.declared.core.Vsu.{Vsu}
+use Rattle.vsu.specs.declared.unit.Vsu.{Vsu}
 use Rattle.image.specs.Image.{bytes_of, edition_answer, edition_in, fields_answer, fields_in, image_of, known_in, loaded_by, read_answer, read_of, refusal_at}
 use Rattle.image.proofs.ImageLaws.{FirstFault, all_sound, bytes-of-values, bytes_same, first-fault, image-length, none-faulty, number_in, rows-rise, value-at, values_length, values-of-bytes}
 

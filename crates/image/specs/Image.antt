@@ -1,5 +1,5 @@
 -- The state image, in the words of documents 01 and 02: 420 bytes, little-endian.
-use Rattle.core.specs.Prelude.{ℕ, zero, suc, ◌+◌, cond, not, List, [], ◌∷◌, ◌++◌, length, drop, ◌==◌, nat_lt, slice_index}
+use Rattle.std.specs.Prelude.{ℕ, zero, suc, ◌+◌, cond, not, List, [], ◌∷◌, ◌++◌, length, drop, ◌==◌, nat_lt, slice_index}
 use Rattle.little.specs.Little.{bytes, number, size_of}
 use Rattle.refusal.specs.Refusal.{fault, ◌then◌}
 use Rattle.refusal.specs.declared.Answer.{Answer}
@@ -11,7 +11,7 @@ use Rattle.table.specs.Table.{Edition, faulty_at, known_edition, newest}
 use Rattle.table.specs.declared.Known.{Known}
 use Rattle.table.specs.declared.Known.TheVariants.{First, Second}
 use Rattle.vsu.specs.Core.{power_on, unit_answer}
-use Rattle.vsu.specs.declared.core.Vsu.{Vsu}
+use Rattle.vsu.specs.declared.unit.Vsu.{Vsu}
 use Rattle.image.specs.declared.Loaded.{Loaded}
 
 -- 10 and 11: "header differs; field at fault: carries the lowest such offset". "Header 0..15".

@@ -1,7 +1,7 @@
 // The state image, 420 bytes: the fields' values, by the table.
 #![tactic(auto)]
 
-ghost use Rattle.core.specs.Prelude.{◌≡◌, ◌-◌, [], ◌++◌, length, replicate};
+ghost use Rattle.std.specs.Prelude.{◌≡◌, ◌-◌, [], ◌++◌, length, replicate};
 ghost use Rattle.std.proofs.lemmas.List.Edits.{sets};
 ghost use Rattle.refusal.specs.Refusal.{Tells};
 ghost use Rattle.table.specs.Table.{field_count, known_edition, newest};
@@ -9,8 +9,8 @@ ghost use Rattle.image.specs.Image.{bytes_of, fields_in, refusal_at, fields_answ
 
 use refusal::{Answer, Refusal};
 use table::{FIELDS, Known, NEWEST, SHIFT, SIZE};
-use vsu::core;
-use vsu::core::Vsu;
+use vsu::unit;
+use vsu::unit::Vsu;
 
 // The state that an image holds, and how the reading ended.
 #[derive(Clone, Copy)]
@@ -86,7 +86,7 @@ fn check_fields(edition: Known, f: &[u32; FIELDS]) -> Answer
 pub fn write_image(u: Vsu, out: &mut [u8]) -> Answer
     ensures { (result ≡ (written_of u out.old).answer) × (out.new ≡ (written_of u out.old).out) × Tells result (image_answer u (length out.old)) }
 {
-    if !core::in_range(u) {
+    if !unit::in_range(u) {
         return Answer::Refused(Refusal::State);
     }
     if out.len() < SIZE {
@@ -101,7 +101,7 @@ pub fn write_image(u: Vsu, out: &mut [u8]) -> Answer
 fn refused(why: Refusal) -> Loaded
     ensures { result ≡ loaded_by (Answer.Refused why) [] }
 {
-    let u = core::new();
+    let u = unit::new();
     Loaded {
         state: u,
         answer: Answer::Refused(why),

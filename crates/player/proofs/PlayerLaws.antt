@@ -1,5 +1,5 @@
 -- The calls, over plain variables: what the rows come to, and what a call then hands back.
-use Rattle.core.specs.Prelude.{◌≡◌, ℕ, ◌+◌, ◌-◌, ◌*◌, ◌/◌, ◌<◌, ◌≤◌, Bool, true, false, cond, not, ◌&&◌, ltb, leb, List, [], ◌∷◌, ◌++◌, length, get_or, take, drop, ℤ}
+use Rattle.std.specs.Prelude.{◌≡◌, ℕ, ◌+◌, ◌-◌, ◌*◌, ◌/◌, ◌<◌, ◌≤◌, Bool, true, false, cond, not, ◌&&◌, ltb, leb, List, [], ◌∷◌, ◌++◌, length, get_or, take, drop, ℤ}
 use mathlib.Core.Path.{refl, sym, ap, ◌∙◌}
 use mathlib.Core.Bool.{true≢false}
 use mathlib.Core.List.{append-nil, append_assoc}
@@ -38,7 +38,7 @@ use Rattle.refusal.specs.declared.Refusal.TheVariants.{State, Room, BeyondEnd, P
 use Rattle.vsu.proofs.MutesLaws.{mutes-keep}
 use Rattle.vsu.proofs.RangeLaws.{power-on-in-range, range-facts}
 use Rattle.vsu.specs.Core.{frames_due, in_range, power_on, sides, unit_answer, with_mutes}
-use Rattle.vsu.specs.declared.core.Vsu.{Vsu}
+use Rattle.vsu.specs.declared.unit.Vsu.{Vsu}
 use Rattle.player.specs.Rows.{answered_by, is_accepted, is_misplaced, is_past, row_by}
 use Rattle.player.specs.Walk.{Recallable, Walkable, placed_at, start_for}
 use Rattle.player.proofs.RowsLaws.{Gone, begun, gone-answer, gone-answered, gone-misplaced, gone-on, gone-past, gone-row, stopped-at, then-then, turned_round}

@@ -1,5 +1,5 @@
 -- A run through a log's writes: past a write, past cycles with none; and what the loops of `skip_to` and `run_to` hold.
-use Rattle.core.specs.Prelude.{◌≡◌, ℕ, zero, suc, ◌+◌, ◌-◌, ◌*◌, ◌<◌, ◌≤◌, Bool, true, false, cond, ◌&&◌, ltb, List, [], ◌∷◌, ◌++◌, length, take, drop, ℤ}
+use Rattle.std.specs.Prelude.{◌≡◌, ℕ, zero, suc, ◌+◌, ◌-◌, ◌*◌, ◌<◌, ◌≤◌, Bool, true, false, cond, ◌&&◌, ltb, List, [], ◌∷◌, ◌++◌, length, take, drop, ℤ}
 use mathlib.Core.Path.{refl, sym, ap, ap₂, ◌∙◌}
 use mathlib.Core.Bool.{and-false}
 use mathlib.Core.List.{append_assoc, append-nil}
@@ -18,12 +18,12 @@ use Rattle.vsu.proofs.CoreLaws.{advance-gives, run-gives, write-gives}
 use Rattle.vsu.proofs.RunLaws.{frames-length, front_length, sides-append, sides-length}
 use Rattle.refusal.specs.declared.Answer.TheVariants as answer
 use Rattle.vsu.specs.Core.{RunGives, advance_of, cycle, frames, frames_due, in_range, made, run, run_of, says, sides, write, write_of}
-use Rattle.vsu.specs.declared.core.Frame.{Frame}
-use Rattle.vsu.specs.declared.core.Moved.{Moved}
-use Rattle.vsu.specs.declared.core.Said.{Said}
-use Rattle.vsu.specs.declared.core.Said.TheVariants as said
-use Rattle.vsu.specs.declared.core.Vsu.{Vsu}
-use Rattle.vsu.specs.declared.core.Written.{Written}
+use Rattle.vsu.specs.declared.unit.Frame.{Frame}
+use Rattle.vsu.specs.declared.unit.Moved.{Moved}
+use Rattle.vsu.specs.declared.unit.Said.{Said}
+use Rattle.vsu.specs.declared.unit.Said.TheVariants as said
+use Rattle.vsu.specs.declared.unit.Vsu.{Vsu}
+use Rattle.vsu.specs.declared.unit.Written.{Written}
 use Rattle.deck.specs.Unbroken.{Moment, apply_at, counts_of, frames_on, how_many, in_all, is_held, is_none, is_taken, moments_at, moments_on, no_counts, run_on}
 use Rattle.deck.specs.declared.Counts.{Counts}
 use Rattle.deck.proofs.UnbrokenLaws.{counts-append, due-most, frames-on-add, frames-on-length, frames-past, in_all_lem, moments-on-add, moments-on-length, moments-past, run-on-add, run_past}

@@ -1,6 +1,6 @@
 -- What the inner contracts of the code go by; nothing to believe. An order of refusals as the code goes through it: what a check of
 -- the log has told, and the rows after it.
-use Rattle.core.specs.Prelude.{ℕ, Bool, true, false, cond, not, ◌&&◌, List, nat_le, nat_lt}
+use Rattle.std.specs.Prelude.{ℕ, Bool, true, false, cond, not, ◌&&◌, List, nat_le, nat_lt}
 use Rattle.register_log.specs.Log.{edition1, stands_at}
 use Rattle.register_log.specs.declared.Checked.{Checked}
 use Rattle.register_log.specs.declared.Checked.TheVariants as checked

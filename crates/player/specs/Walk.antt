@@ -1,5 +1,5 @@
 -- What the inner contracts of the code go by; nothing to believe. What the calls promise is in `deck`.
-use Rattle.core.specs.Prelude.{◌≡◌, ℕ, ◌+◌, ◌≤◌, true, cond, ◌&&◌, List, length, nat_le, nat_lt}
+use Rattle.std.specs.Prelude.{◌≡◌, ℕ, ◌+◌, ◌≤◌, true, cond, ◌&&◌, List, length, nat_le, nat_lt}
 use Rattle.deck.specs.Player.{length_in, memory_size, restarted, standing_answer}
 use Rattle.deck.specs.declared.Counts.{Counts}
 use Rattle.deck.specs.declared.Player.{Player}
@@ -10,9 +10,9 @@ use Rattle.marks.specs.Marks.{is_set}
 use Rattle.refusal.specs.declared.Answer.{Answer}
 use Rattle.refusal.specs.declared.Answer.TheVariants.{Accepted}
 use Rattle.vsu.specs.Core.{in_range}
-use Rattle.vsu.specs.declared.core.Said.{Said}
-use Rattle.vsu.specs.declared.core.Said.TheVariants.{Taken, Held, NoRegister, Refused}
-use Rattle.vsu.specs.declared.core.Vsu.{Vsu}
+use Rattle.vsu.specs.declared.unit.Said.{Said}
+use Rattle.vsu.specs.declared.unit.Said.TheVariants.{Taken, Held, NoRegister, Refused}
+use Rattle.vsu.specs.declared.unit.Vsu.{Vsu}
 
 -- a record at another place of the log, with its marks
 abbrev pub placed_at : Player → Vsu → ℕ → ℕ → Player

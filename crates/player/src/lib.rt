@@ -4,7 +4,7 @@
 mod rows;
 mod walk;
 
-ghost use Rattle.core.specs.Prelude.{◌≡◌, ◌-◌, ◌≤◌, true, length};
+ghost use Rattle.std.specs.Prelude.{◌≡◌, ◌-◌, ◌≤◌, true, length};
 ghost use Rattle.std.proofs.lemmas.List.Edits.{sets};
 ghost use Rattle.deck.specs.Player.{fresh, open_of, standing_of, moved_on, play_answer, play_of, seek_answer, seek_of, memory_size, slot_place, slot_of, set_answer, set_of, clear_answer, clear_of, go_to_answer, go_to_of, mute_answer, mute_of, turn_by, with_marks, writes_in};
 ghost use Rattle.deck.specs.Unbroken.{no_counts};
@@ -20,8 +20,8 @@ use deck::{APPLIED_PLACE, IMAGE_PLACE, MEMORY_SIZE, Played, Player, SLOT_SIZE, T
 use image::Loaded;
 use refusal::{Answer, Refusal};
 use register_log::Checked;
-use vsu::core;
-use vsu::core::Vsu;
+use vsu::unit;
+use vsu::unit::Vsu;
 
 fn turn(p: Player, answer: Answer) -> Turn
     ensures { result ≡ record { player = p; answer = answer } }
@@ -35,7 +35,7 @@ fn turn(p: Player, answer: Answer) -> Turn
 fn fresh() -> Player
     ensures { result ≡ fresh }
 {
-    let u = core::new();
+    let u = unit::new();
     Player {
         unit: u,
         cycle: 0,
@@ -130,7 +130,7 @@ fn standing(p: Player, log: &[u8]) -> Checked
     ensures { result ≡ standing_of p log.now }
 {
     let c = register_log::check_log(log);
-    let c = rows::row(c, !core::in_range(unit_of(p)), Refusal::State);
+    let c = rows::row(c, !unit::in_range(unit_of(p)), Refusal::State);
     rows::row(
         c,
         rows::is_misplaced(c, log, p.cycle, p.applied),
@@ -172,7 +172,7 @@ pub fn play(p: Player, n: u32, log: &[u8], out: &mut [i16]) -> Played
     let target = (p.cycle as u64) + (n as u64);
     let c = rows::row(c, rows::is_past(c, target), Refusal::BeyondEnd);
     let u = unit_of(p);
-    let due = core::frames_due(u, n);
+    let due = unit::frames_due(u, n);
     let c = rows::row(c, due > (out.len() / 2) as u64, Refusal::Room);
     if rows::stops(c) {
         return unplayed(p, rows::answer_of(c));
@@ -198,7 +198,7 @@ fn start_for(p: Player, target: u32) -> Player
     if p.cycle <= target {
         return p;
     }
-    placed_at(p, with_mutes(core::new(), mutes_of(p)), 0, 0)
+    placed_at(p, with_mutes(unit::new(), mutes_of(p)), 0, 0)
 }
 
 // To a cycle, without frames: 3 to 8, 1, 13, 12.
@@ -290,7 +290,7 @@ fn clear_answer(ranged: bool, marks: u16, slot: u32) -> Answer
 pub fn clear_mark(p: Player, slot: u32) -> Turn
     ensures { (result ≡ clear_of p slot) × Tells result.answer (clear_answer p slot) }
 {
-    let a = clear_answer(core::in_range(unit_of(p)), p.marks, slot);
+    let a = clear_answer(unit::in_range(unit_of(p)), p.marks, slot);
     turn_by(a, p, with_marks(p, marks::without_mark(p.marks, slot)))
 }
 
@@ -349,7 +349,7 @@ pub fn mute(p: Player, bits: u32) -> Turn
     ensures { (result ≡ mute_of p bits) × Tells result.answer (mute_answer p bits) }
 {
     let u = unit_of(p);
-    if core::in_range(u) & (bits <= 63) {
+    if unit::in_range(u) & (bits <= 63) {
         let q = placed_at(p, with_mutes(u, bits as u8), p.cycle, p.applied);
         return turn(q, Answer::Accepted);
     }

@@ -1,6 +1,6 @@
 // An order of refusals, row by row: what the check of a log has told, and each fault after it. No record is in sight here, so that the
 // branches of an order cost the prover little.
-ghost use Rattle.core.specs.Prelude.{◌≡◌, not};
+ghost use Rattle.std.specs.Prelude.{◌≡◌, not};
 ghost use Rattle.register_log.specs.Log.{checked_answer};
 ghost use Rattle.player.specs.Rows.{row_by, answered_by, count_by, is_accepted, is_past, is_misplaced};
 

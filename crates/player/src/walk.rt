@@ -1,13 +1,13 @@
 // A unit run on through a log: the entries in the span and the cycles in the span, and no more.
-ghost use Rattle.core.specs.Prelude.{◌≡◌, ◌-◌, ◌*◌, ◌<◌, ◌≤◌, ◌++◌, length, drop};
+ghost use Rattle.std.specs.Prelude.{◌≡◌, ◌-◌, ◌*◌, ◌<◌, ◌≤◌, ◌++◌, length, drop};
 ghost use Rattle.register_log.specs.Log.{edition1, writes_from, due_before};
 ghost use Rattle.vsu.specs.Core.{advance_of, frames_due, run_of, sides, write_of};
 ghost use Rattle.deck.specs.Unbroken.{counts_of, frames_on, in_all, moments_on, no_counts, run_on};
 ghost use Rattle.player.specs.Walk.{counted_by, next_of, Walkable};
 
 use deck::Counts;
-use vsu::core;
-use vsu::core::{Said, Vsu};
+use vsu::unit;
+use vsu::unit::{Said, Vsu};
 
 // Where a walk has come to.
 #[derive(Clone, Copy)]
@@ -41,7 +41,7 @@ fn next_due(log: &[u8], count: u32, applied: u32, target: u32) -> u32
 fn written(u: Vsu, address: u16, byte: u8) -> Vsu
     ensures { result ≡ (write_of address byte u).state }
 {
-    let m = core::write(u, address as u32, byte);
+    let m = unit::write(u, address as u32, byte);
     m.state
 }
 
@@ -161,11 +161,11 @@ pub(crate) fn run_to(
         let due = next_due(log, count, k, target);
         if due <= cycle {
             let w = register_log::write_at(log, k);
-            counts = counted(counts, core::says(unit, w.address as u32));
+            counts = counted(counts, unit::says(unit, w.address as u32));
             unit = written(unit, w.address, w.byte);
             k += 1;
         } else {
-            let made = core::frames_due(unit, due - cycle);
+            let made = unit::frames_due(unit, due - cycle);
             unit = ran(unit, due - cycle, &mut out[at..]);
             at += 2 * (made as usize);
             cycle = due;

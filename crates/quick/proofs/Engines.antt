@@ -1,13 +1,13 @@
 -- "For every state in range, every cycle count and every buffer, both answer the same: state, frames, refusal, untouched bytes."
-use Rattle.core.specs.Prelude.{◌≡◌, ℕ, false, List, length, ℤ}
+use Rattle.std.specs.Prelude.{◌≡◌, ℕ, false, List, length, ℤ}
 use mathlib.Core.Path.{refl, sym, ◌∙◌}
 use Rattle.refusal.specs.declared.Answer.TheVariants.{Refused}
 use Rattle.refusal.specs.declared.Refusal.TheVariants.{State}
 use Rattle.vsu.proofs.CoreLaws.{Promised, moved-refused, ran-refused, run-refused, unit-refused}
 use Rattle.vsu.specs.Core.{advance_of, in_range, run}
-use Rattle.vsu.specs.declared.core.Moved.{Moved}
-use Rattle.vsu.specs.declared.core.Ran.{Ran}
-use Rattle.vsu.specs.declared.core.Vsu.{Vsu}
+use Rattle.vsu.specs.declared.unit.Moved.{Moved}
+use Rattle.vsu.specs.declared.unit.Ran.{Ran}
+use Rattle.vsu.specs.declared.unit.Vsu.{Vsu}
 
 module _ (n : ℕ) (u : Vsu) where
   -- `Promised` is what the contract of either engine's `run` says of what it hands back and of its buffer afterwards

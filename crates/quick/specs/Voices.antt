@@ -1,5 +1,5 @@
 -- How many cycles all voices can go at once. What an inner contract goes by; nothing to believe: the engine promises the cycle engine's answers.
-use Rattle.core.specs.Prelude.{ℕ, List, [], ◌∷◌}
+use Rattle.std.specs.Prelude.{ℕ, List, [], ◌∷◌}
 use Rattle.leaps.specs.ChannelEnum.{voice_far}
 use Rattle.leaps.specs.Distance.{least, never}
 use Rattle.voice.specs.declared.channel_enum.Voice.{Voice}

@@ -3,7 +3,7 @@
 
 mod voices;
 
-ghost use Rattle.core.specs.Prelude.{◌≡◌, ◌+◌, ◌*◌, ◌%◌, ◌≤◌, true, ◌++◌, length, drop};
+ghost use Rattle.std.specs.Prelude.{◌≡◌, ◌+◌, ◌*◌, ◌%◌, ◌≤◌, true, ◌++◌, length, drop};
 ghost use Rattle.refusal.specs.Refusal.{Tells};
 ghost use Rattle.six.specs.Core.{silenced, sums_of};
 ghost use Rattle.vsu.specs.Core.{frame_of, run, frames, frames_due, sides, in_range, unit_answer, advance_of, run_answer, run_of, SmallSums};
@@ -12,16 +12,16 @@ use leaps::distance::least;
 use refusal::{Answer, Refusal};
 use voice::channel_enum::Voice;
 use vsu::constants::SOUND_SAMPLE_RATE_CYCLE_COUNT;
-use vsu::core;
-use vsu::core::{Frame, Moved, Ran, Vsu};
+use vsu::unit;
+use vsu::unit::{Frame, Moved, Ran, Vsu};
 
-// The frame of six voices, as `vsu::core::sample` makes it. Its caller has shown that they are in range, so that each side fits an i16.
+// The frame of six voices, as `vsu::unit::sample` makes it. Its caller has shown that they are in range, so that each side fits an i16.
 fn sample(voices: [Voice; 6], waves: &[u8; 160], mutes: u8) -> Frame
     requires { SmallSums (sums_of waves.now (silenced mutes voices)) }
     ensures { result ≡ frame_of waves.now (silenced mutes voices) }
 {
-    let audible = six::core::silenced(voices, mutes);
-    let s = six::core::mix(audible, waves);
+    let audible = six::unit::silenced(voices, mutes);
+    let s = six::unit::mix(audible, waves);
     Frame {
         left: (s.left / 8 * 32) as i16,
         right: (s.right / 8 * 32) as i16,
@@ -83,11 +83,11 @@ fn skip(u: Vsu, n: u32) -> Vsu
     t
 }
 
-// `vsu::core::advance`.
+// `vsu::unit::advance`.
 pub fn advance(u: Vsu, n: u32) -> Moved
     ensures { (result ≡ advance_of n u) × Tells result.answer (unit_answer u) }
 {
-    if core::in_range(u) {
+    if unit::in_range(u) {
         return Moved {
             state: skip(u, n),
             answer: Answer::Accepted,
@@ -99,20 +99,20 @@ pub fn advance(u: Vsu, n: u32) -> Moved
     }
 }
 
-// `vsu::core::run`.
+// `vsu::unit::run`.
 pub fn run(u: Vsu, n: u32, out: &mut [i16]) -> Ran
     ensures { (result ≡ (run_of n u out.old).ran)
         × (out.new ≡ (run_of n u out.old).out)
         × Tells result.answer (run_answer n u (length out.old)) }
 {
-    if !core::in_range(u) {
+    if !unit::in_range(u) {
         return Ran {
             state: u,
             frames: 0,
             answer: Answer::Refused(Refusal::State),
         };
     }
-    let due = core::frames_due(u, n);
+    let due = unit::frames_due(u, n);
     if due > (out.len() / 2) as u64 {
         return Ran {
             state: u,

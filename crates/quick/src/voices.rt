@@ -1,5 +1,5 @@
 // The six voices, many cycles at once.
-ghost use Rattle.core.specs.Prelude.{◌≡◌, true, map};
+ghost use Rattle.std.specs.Prelude.{◌≡◌, true, map};
 ghost use Rattle.leaps.specs.ChannelEnum.{leap_of};
 ghost use Rattle.six.specs.Core.{voices_after_all, voices_in_range};
 ghost use Rattle.quick.specs.Voices.{voices_far};
@@ -44,7 +44,7 @@ pub(crate) fn cycles(voices: [Voice; 6], modulation: &[i8; 32], n: u32) -> [Voic
     ensures { result ≡ voices_after_all modulation.now n voices }
 {
     if n < FEW {
-        return six::core::cycles(voices, modulation, n);
+        return six::unit::cycles(voices, modulation, n);
     }
     let mut out = voices;
     let mut i = 0;
@@ -54,7 +54,7 @@ pub(crate) fn cycles(voices: [Voice; 6], modulation: &[i8; 32], n: u32) -> [Voic
         out = there;
         i += part;
         if i < n {
-            let next = six::core::cycles(out, modulation, 1);
+            let next = six::unit::cycles(out, modulation, 1);
             out = next;
             i += 1;
         }

@@ -8,7 +8,7 @@ use player::{
     clear_mark, go_to, lowest_free, marks_set, mute, open, play, seek, set_free, set_mark, unplayed,
 };
 use refusal::Answer;
-use vsu::core;
+use vsu::unit;
 
 #[derive(Clone, Copy)]
 pub(crate) enum Call {
@@ -74,7 +74,7 @@ fn own_log() -> [u8; 64] {
 
 // A record with a power-on unit. A call takes it at any place that the log has.
 fn silent(cycle: u32, applied: u32) -> Player {
-    let u = core::new();
+    let u = unit::new();
     Player {
         unit: u,
         cycle: cycle,

@@ -6,8 +6,8 @@ use libc::STDIN_FILENO;
 use little::Width;
 use refusal::Answer;
 use report::sum::of_bytes;
-use vsu::core;
-use vsu::core::Vsu;
+use vsu::unit;
+use vsu::unit::Vsu;
 
 // The number of a refusal and the value that it carries; zeros for a call that was accepted.
 #[derive(Clone, Copy)]
@@ -35,7 +35,7 @@ pub(crate) fn image_of(u: Vsu, out: &mut [u8]) -> u32 {
 }
 
 fn power_on(out: &mut [u8]) -> u32 {
-    image_of(core::new(), out)
+    image_of(unit::new(), out)
 }
 
 // The bytes read as an image: the answer, and into `out` the image of the state that came with it, which is always in range.

@@ -9,8 +9,8 @@ use crate::tally::Tally;
 use libc::STDIN_FILENO;
 use refusal::Answer;
 use report::sum::of_frames;
-use vsu::core;
-use vsu::core::{Moved, Ran, Vsu};
+use vsu::unit;
+use vsu::unit::{Moved, Ran, Vsu};
 
 // Where a replay stands.
 #[derive(Clone, Copy)]
@@ -68,10 +68,10 @@ fn taken(letter: u8) -> Words {
 }
 
 fn write(u: Vsu, t: Tally, w: Words) -> Replay {
-    let m = core::write(u, w.a, w.byte);
+    let m = unit::write(u, w.a, w.byte);
     let v = m.state;
     let said = m.said;
-    let a = core::answer_in(said);
+    let a = unit::answer_in(said);
     Replay {
         unit: v,
         tally: tally::accepted(t, b"W refused", tally::refused(a)),
@@ -115,7 +115,7 @@ fn advanced(m: Moved, t: Tally, w: Words, what: &[u8]) -> Replay {
 // The cycle engine's two runs, and the quick engine's.
 
 fn run(u: Vsu, t: Tally, w: Words, out: &mut [i16; 8192]) -> Replay {
-    let m = core::run(u, w.a, out);
+    let m = unit::run(u, w.a, out);
     ran(m, t, w, out)
 }
 
@@ -125,7 +125,7 @@ fn quick_run(u: Vsu, t: Tally, w: Words, out: &mut [i16; 8192]) -> Replay {
 }
 
 fn advance(u: Vsu, t: Tally, w: Words) -> Replay {
-    advanced(core::advance(u, w.a), t, w, b"A refused")
+    advanced(unit::advance(u, w.a), t, w, b"A refused")
 }
 
 fn quick_advance(u: Vsu, t: Tally, w: Words) -> Replay {
@@ -210,7 +210,7 @@ fn asked(u: Vsu, t: Tally, letter: u8) -> Tally {
 fn op(u: Vsu, t: Tally, letter: u8, out: &mut [i16; 8192]) -> Replay {
     match letter {
         b'P' => Replay {
-            unit: core::new(),
+            unit: unit::new(),
             tally: tally::begin(t),
         },
         b'L' => load(u, t),
@@ -240,7 +240,7 @@ fn next(r: Replay, out: &mut [i16; 8192]) -> Replay {
 
 fn start() -> Replay {
     Replay {
-        unit: core::new(),
+        unit: unit::new(),
         tally: tally::start(),
     }
 }

@@ -1,5 +1,5 @@
 -- The cases of the definitions of specs/Core.antt, over plain variables.
-use Rattle.core.specs.Prelude.{◌≡◌, ℕ, zero, suc, ◌+◌, ◌^◌, ◌<◌, ◌≤◌, Bool, true, false, cond, ◌&&◌, eqb, ltb, List, [], ◌∷◌, map, length, get_or, take, drop, set, ℤ}
+use Rattle.std.specs.Prelude.{◌≡◌, ℕ, zero, suc, ◌+◌, ◌^◌, ◌<◌, ◌≤◌, Bool, true, false, cond, ◌&&◌, eqb, ltb, List, [], ◌∷◌, map, length, get_or, take, drop, set, ℤ}
 use mathlib.Core.Path.{refl, sym, ap, ◌∙◌}
 use mathlib.Core.Bool.{true≢false}
 use mathlib.Core.List.{map-map}
@@ -19,7 +19,7 @@ use Rattle.voice.specs.declared.channel_enum.Kind.TheVariants.{Wave, Swept, Nois
 use Rattle.voice.specs.declared.channel_enum.Voice.{Voice}
 use Rattle.six.proofs.Upto.{up_to, up_to-more, up_to_by}
 use Rattle.six.specs.Core.{off_noise, off_swept, off_wave, plays, any_plays, sweep_fifth, voices_after, voices_after_all, total, heard_left, heard_right, sums_of, audible, silenced, silenced_from, unmuted, unmuted_from}
-use Rattle.six.specs.declared.core.Sums.{Sums}
+use Rattle.six.specs.declared.unit.Sums.{Sums}
 
 -- whether any voice plays, from the front
 

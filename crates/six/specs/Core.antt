@@ -1,11 +1,11 @@
 -- The six voices together, in document 01's order and words.
-use Rattle.core.specs.Prelude.{ℕ, zero, suc, ◌+◌, Bool, false, cond, ◌&&◌, ◌||◌, List, [], ◌∷◌, map, ℤ, slice_index_or, slice_set}
+use Rattle.std.specs.Prelude.{ℕ, zero, suc, ◌+◌, Bool, false, cond, ◌&&◌, ◌||◌, List, [], ◌∷◌, map, ℤ, slice_index_or, slice_set}
 use Rattle.common.specs.Bits.{bit}
 use Rattle.voice.specs.ChannelEnum.{voice_of, stop_voice, step_auto_stop, step_frequency, step_envelope, step_sweep, heard, wave_in_range, swept_in_range, noise_in_range}
 use Rattle.common.specs.declared.channel.Channel.{Channel}
 use Rattle.voice.specs.declared.channel_enum.Kind.TheVariants.{Wave, Swept, Noise}
 use Rattle.voice.specs.declared.channel_enum.Voice.{Voice}
-use Rattle.six.specs.declared.core.Sums.{Sums}
+use Rattle.six.specs.declared.unit.Sums.{Sums}
 
 -- "Power-on: all zero and off, tap 14."
 

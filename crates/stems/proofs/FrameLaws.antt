@@ -15,8 +15,8 @@ use Rattle.register_log.specs.declared.Write.{Write}
 use Rattle.six.specs.Core.{silenced}
 use Rattle.vsu.proofs.RunLaws.{sides-length}
 use Rattle.vsu.specs.Core.{cycle, frame_of, frames_due, made, makes_frame, sides}
-use Rattle.vsu.specs.declared.core.Frame.{Frame}
-use Rattle.vsu.specs.declared.core.Vsu.{Vsu}
+use Rattle.vsu.specs.declared.unit.Frame.{Frame}
+use Rattle.vsu.specs.declared.unit.Vsu.{Vsu}
 use Rattle.stems.specs.Stems.{Side, place_of}
 use Rattle.stems.specs.Stems.Side.{left, right}
 

@@ -12,8 +12,8 @@ use Rattle.deck.specs.Player.{play_answer, writes_in}
 use Rattle.deck.specs.Unbroken.{frames_in, frames_on}
 use Rattle.refusal.specs.declared.Answer.TheVariants.{Accepted}
 use Rattle.vsu.specs.Core.{sides, with_mutes}
-use Rattle.vsu.specs.declared.core.Frame.{Frame}
-use Rattle.vsu.specs.declared.core.Vsu.{Vsu}
+use Rattle.vsu.specs.declared.unit.Frame.{Frame}
+use Rattle.vsu.specs.declared.unit.Vsu.{Vsu}
 use Rattle.stems.specs.Stems.{all_but, bounce_answer, bounce_by, bounce_of, lent, rendered, shortest_of}
 use Rattle.stems.proofs.MixLaws.{stem-at}
 use Rattle.stems.proofs.StemsLaws.{answered, counter-below}

@@ -20,7 +20,7 @@ use Rattle.voice.specs.ChannelEnum.{heard, stop_voice}
 use Rattle.voice.specs.declared.channel_enum.Voice.{Voice}
 use Rattle.vsu.proofs.RangeLaws.{range-facts}
 use Rattle.vsu.specs.Core.{all_at_most, frame_of, frame_side, frames_due, sides, with_mutes}
-use Rattle.vsu.specs.declared.core.Frame.{Frame}
+use Rattle.vsu.specs.declared.unit.Frame.{Frame}
 use Rattle.stems.specs.Stems.{Buffers, Side, place_of, Remains, added_at, all_but, bounce_answer, bounce_by, bounce_of, framed, lent, less_stems, rendered, stems_from}
 use Rattle.stems.specs.Stems.Side.{left, right}
 use Rattle.stems.proofs.FrameLaws.{frame_at, frame_in, side-at, side-within, side_in}

@@ -22,7 +22,7 @@ use Rattle.refusal.specs.declared.Answer.TheVariants.{Accepted, Refused}
 use Rattle.vsu.proofs.MutesLaws.{mutes-keep}
 use Rattle.vsu.proofs.RangeLaws.{range-facts}
 use Rattle.vsu.specs.Core.{fits_in, frames_due, in_range, sides, unit_answer, with_mutes}
-use Rattle.vsu.specs.declared.core.Vsu.{Vsu}
+use Rattle.vsu.specs.declared.unit.Vsu.{Vsu}
 use Rattle.stems.specs.Stems.{Buffers, all_fit, bounce_answer, bounce_by, bounce_of, frames_by, lent, rendered, rendered_by, shortest_of, stems_from}
 use Rattle.stems.specs.declared.Bounced.{Bounced}
 use Rattle.stems.specs.declared.Rendered.{Rendered}

@@ -9,7 +9,7 @@ use Rattle.refusal.specs.declared.Answer.{Answer}
 use Rattle.refusal.specs.declared.Answer.TheVariants.{Accepted, Refused}
 use Rattle.refusal.specs.declared.Refusal.TheVariants.{BeyondEnd, Room}
 use Rattle.vsu.specs.Core.{fits_in, frames_due, sides, with_mutes}
-use Rattle.vsu.specs.declared.core.Vsu.{Vsu}
+use Rattle.vsu.specs.declared.unit.Vsu.{Vsu}
 use Rattle.stems.specs.declared.Bounced.{Bounced}
 
 -- the seven lent buffers: those of channels 0 to 5, and the mix's

@@ -13,8 +13,8 @@ use player::{go_to, mute, open, play, seek, set_free};
 use refusal::Answer;
 use report::sum::of_frames;
 use voice::channel_enum::Kind;
-use vsu::core;
-use vsu::core::Vsu;
+use vsu::unit;
+use vsu::unit::Vsu;
 
 // A record and the sum of the frames that were played to come to it.
 #[derive(Clone, Copy)]
@@ -121,7 +121,7 @@ fn table(p: Player) {
 
 // The wrong way: from power-on, the last byte that each register was sent, in the order of their addresses.
 fn rebuilt(log: &[u8], before: u32) -> Vsu {
-    let mut u = core::new();
+    let mut u = unit::new();
     let mut address = 0;
     while address < 0x600 {
         let next = song::sent(u, log, address, before);

@@ -1,8 +1,8 @@
 // The log: channel 5 with a wave and a modulation table that doesn't loop, an upbeat, then 41 bars with a few writes.
 use little::Width;
 use register_log::write_at;
-use vsu::core;
-use vsu::core::Vsu;
+use vsu::unit;
+use vsu::unit::Vsu;
 
 // The table's 32 entries are read at the fast ticks, the last at cycle 32 × 19,201 = 614,432: in bar 1.
 pub(crate) const UPBEAT: u32 = 607_200;
@@ -84,7 +84,7 @@ pub(crate) fn sent(u: Vsu, log: &[u8], address: u32, before: u32) -> Vsu {
         k -= 1;
         let w = write_at(log, k);
         if (w.due < before) & (w.address as u32 == address) {
-            let m = core::write(u, address, w.byte);
+            let m = unit::write(u, address, w.byte);
             let v = m.state;
             return v;
         }

@@ -1,5 +1,5 @@
 -- The cases of the definitions of specs/Core.antt, over plain variables.
-use Rattle.core.specs.Prelude.{◌≡◌, ℕ, ◌+◌, ◌-◌, ◌*◌, ◌/◌, ◌%◌, ◌<◌, ◌≤◌, Bool, true, false, cond, ◌&&◌, ltb, leb, List, [], ◌∷◌, ◌++◌, map, length, get_or, drop, set, ℤ, pos}
+use Rattle.std.specs.Prelude.{◌≡◌, ℕ, ◌+◌, ◌-◌, ◌*◌, ◌/◌, ◌%◌, ◌<◌, ◌≤◌, Bool, true, false, cond, ◌&&◌, ltb, leb, List, [], ◌∷◌, ◌++◌, map, length, get_or, drop, set, ℤ, pos}
 use mathlib.Core.Path.{refl, sym, ap, ◌∙◌}
 use mathlib.Core.Bool.{and_assoc, and-true}
 use mathlib.Core.List.{map-id}
@@ -26,14 +26,14 @@ use Rattle.vsu.specs.Core.{decode_of, between, write, write_to, sort_of, says, s
 use Rattle.refusal.specs.declared.Answer.TheVariants.{Accepted, Refused}
 use Rattle.refusal.specs.declared.Refusal.{Refusal}
 use Rattle.refusal.specs.declared.Refusal.TheVariants.{State, Room}
-use Rattle.vsu.specs.declared.core.Moved.{Moved}
-use Rattle.vsu.specs.declared.core.Ran.{Ran}
-use Rattle.vsu.specs.declared.core.Register.{Register}
-use Rattle.vsu.specs.declared.core.Register.TheVariants as registers
-use Rattle.vsu.specs.declared.core.Said.{Said}
-use Rattle.vsu.specs.declared.core.Said.TheVariants as said
-use Rattle.vsu.specs.declared.core.Vsu.{Vsu}
-use Rattle.vsu.specs.declared.core.Written.{Written}
+use Rattle.vsu.specs.declared.unit.Moved.{Moved}
+use Rattle.vsu.specs.declared.unit.Ran.{Ran}
+use Rattle.vsu.specs.declared.unit.Register.{Register}
+use Rattle.vsu.specs.declared.unit.Register.TheVariants as registers
+use Rattle.vsu.specs.declared.unit.Said.{Said}
+use Rattle.vsu.specs.declared.unit.Said.TheVariants as said
+use Rattle.vsu.specs.declared.unit.Vsu.{Vsu}
+use Rattle.vsu.specs.declared.unit.Written.{Written}
 
 -- an array's length, where it is told of the elements' machine values
 pub length-told : (X Y : Type 0) (f : X → Y) (l : List X) (n : ℕ) → length (map f l) ≡ n → length l ≡ n

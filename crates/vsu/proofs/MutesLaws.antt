@@ -1,16 +1,16 @@
 -- Mutes: "a muted voice adds nothing to a frame, and all else moves as if unmuted".
-use Rattle.core.specs.Prelude.{◌≡◌, ℕ, zero, suc, ◌≤◌, Bool, true, false, cond, List, [], ◌∷◌}
+use Rattle.std.specs.Prelude.{◌≡◌, ℕ, zero, suc, ◌≤◌, Bool, true, false, cond, List, [], ◌∷◌}
 use mathlib.Core.Path.{refl, ap, ◌∙◌}
 use Rattle.common.specs.Bits.{bit}
 use Rattle.six.proofs.CoreLaws.{none-muted, sums-unmuted}
 use Rattle.six.specs.Core.{any_plays, plays, silenced, unmuted, voice_at}
-use Rattle.six.specs.declared.core.Sums.{Sums}
+use Rattle.six.specs.declared.unit.Sums.{Sums}
 use Rattle.voice.specs.declared.channel_enum.Voice.{Voice}
 use Rattle.vsu.specs.Core.{cycle, decode_of, frame_of, frame_side, in_range, made, makes_frame, run, says, with_mutes, write, write_to}
-use Rattle.vsu.specs.declared.core.Frame.{Frame}
-use Rattle.vsu.specs.declared.core.Register.{Register}
-use Rattle.vsu.specs.declared.core.Register.TheVariants as registers
-use Rattle.vsu.specs.declared.core.Vsu.{Vsu}
+use Rattle.vsu.specs.declared.unit.Frame.{Frame}
+use Rattle.vsu.specs.declared.unit.Register.{Register}
+use Rattle.vsu.specs.declared.unit.Register.TheVariants as registers
+use Rattle.vsu.specs.declared.unit.Vsu.{Vsu}
 use Rattle.vsu.proofs.RangeLaws.{range-facts, range-test}
 
 -- "all else moves as if unmuted": a cycle, a write and a run commute with setting the mutes, and a write says what it says without

@@ -1,5 +1,5 @@
 -- A state in range stays in range, and its voices' sums are small: what the runs need of the range rules, and the layers above.
-use Rattle.core.specs.Prelude.{◌≡◌, ℕ, zero, suc, ◌+◌, ◌*◌, ◌/◌, ◌%◌, ◌<◌, ◌≤◌, Bool, true, ◌&&◌, eqb, ltb, leb, List, [], ◌∷◌, map, length, get_or, set, ℤ, pos}
+use Rattle.std.specs.Prelude.{◌≡◌, ℕ, zero, suc, ◌+◌, ◌*◌, ◌/◌, ◌%◌, ◌<◌, ◌≤◌, Bool, true, ◌&&◌, eqb, ltb, leb, List, [], ◌∷◌, map, length, get_or, set, ℤ, pos}
 use mathlib.Core.Path.{refl, sym, ap, subst, ◌∙◌}
 use mathlib.Core.List.{map-id}
 use native.Mathlib.Decide.{ℕ_discrete}
@@ -19,9 +19,9 @@ use Rattle.voice.specs.declared.channel_enum.Voice.{Voice}
 use Rattle.six.proofs.CoreLaws.{silenced-left, silenced-right}
 use Rattle.six.specs.Core.{any_plays, heard_left, heard_right, plays, silenced, sums_of, sweep_fifth, total, voice_at, voices_after, voices_after_all, voices_in_range}
 use Rattle.vsu.specs.Core.{SmallSums, all_at_most, all_bytes, frame_side, cycle, decode_of, makes_frame, frame_of, in_range, power_on, run, shaped, write, write_to}
-use Rattle.vsu.specs.declared.core.Register.{Register}
-use Rattle.vsu.specs.declared.core.Register.TheVariants as registers
-use Rattle.vsu.specs.declared.core.Vsu.{Vsu}
+use Rattle.vsu.specs.declared.unit.Register.{Register}
+use Rattle.vsu.specs.declared.unit.Register.TheVariants as registers
+use Rattle.vsu.specs.declared.unit.Vsu.{Vsu}
 
 -- six voices, each in its own range
 

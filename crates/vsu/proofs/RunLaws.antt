@@ -1,5 +1,5 @@
 -- Runs: what one turn of a run adds, the number of frames, and a run of m + n cycles as one of n after one of m.
-use Rattle.core.specs.Prelude.{◌≡◌, ℕ, zero, suc, ◌+◌, ◌-◌, ◌*◌, ◌%◌, ◌<◌, ◌≤◌, true, cond, List, [], ◌∷◌, ◌++◌, length, get_or, drop, set, ℤ}
+use Rattle.std.specs.Prelude.{◌≡◌, ℕ, zero, suc, ◌+◌, ◌-◌, ◌*◌, ◌%◌, ◌<◌, ◌≤◌, true, cond, List, [], ◌∷◌, ◌++◌, length, get_or, drop, set, ℤ}
 use mathlib.Core.Path.{refl, sym, ap, ap₂, subst, ◌∙◌}
 use mathlib.Core.List.{append_assoc, append-nil}
 use native.Mathlib.Numerals.{add-one, add-two}
@@ -13,8 +13,8 @@ use Rattle.voice.specs.declared.channel_enum.Voice.{Voice}
 use Rattle.vsu.proofs.RangeLaws.{Side, range-facts, cycle-keeps, run-keeps, quiet-muted, frame-sides}
 use Rattle.six.specs.Core.{silenced, sums_of, voices_after, voices_after_all}
 use Rattle.vsu.specs.Core.{SmallSums, cycle, frame_of, makes_frame, frames, frames_due, in_range, made, run, sides}
-use Rattle.vsu.specs.declared.core.Frame.{Frame}
-use Rattle.vsu.specs.declared.core.Vsu.{Vsu}
+use Rattle.vsu.specs.declared.unit.Frame.{Frame}
+use Rattle.vsu.specs.declared.unit.Vsu.{Vsu}
 
 -- a run leaves waves, modulation and mutes as they were
 

@@ -1,5 +1,5 @@
 -- What the loop of a run's `step` holds, and what a turn makes of it, whichever engine goes from frame to frame.
-use Rattle.core.specs.Prelude.{◌≡◌, ℕ, ◌+◌, ◌-◌, ◌*◌, ◌<◌, ◌≤◌, true, List, [], ◌∷◌, ◌++◌, length, drop, set, ℤ}
+use Rattle.std.specs.Prelude.{◌≡◌, ℕ, ◌+◌, ◌-◌, ◌*◌, ◌<◌, ◌≤◌, true, List, [], ◌∷◌, ◌++◌, length, drop, set, ℤ}
 use mathlib.Core.Path.{refl, ap, ◌∙◌}
 use native.Mathlib.Omega.{arith}
 use Rattle.six.specs.Core.{silenced, sums_of, voices_after_all, voices_in_range}
@@ -7,8 +7,8 @@ use Rattle.voice.specs.declared.channel_enum.Voice.{Voice}
 use Rattle.vsu.proofs.RangeLaws.{range-facts, run-keeps, run-voices}
 use Rattle.vsu.proofs.RunLaws as laws
 use Rattle.vsu.specs.Core.{SmallSums, frame_of, frames, frames_due, in_range, run, sides}
-use Rattle.vsu.specs.declared.core.Frame.{Frame}
-use Rattle.vsu.specs.declared.core.Vsu.{Vsu}
+use Rattle.vsu.specs.declared.unit.Frame.{Frame}
+use Rattle.vsu.specs.declared.unit.Vsu.{Vsu}
 
 -- i cycles of n in: the voices and the output counter are the run's, and the buffer, which held `before`, has the run's frames in front
 pub record Stands (u : Vsu) (n : ℕ) (before : List ℤ) (i : ℕ) (voices : List Voice) (output at : ℕ) (out : List ℤ) : Type 0 where

@@ -1,5 +1,5 @@
 -- The sound unit, in document 01's order and words: register writes, one cycle, the frame, runs, range rules, refusals.
-use Rattle.core.specs.Prelude.{ℕ, zero, suc, ◌+◌, ◌-◌, ◌*◌, ◌/◌, ◌%◌, ◌≤◌, Bool, true, cond, not, ◌&&◌, List, [], ◌∷◌, ◌++◌, map, length, drop, set, replicate, ℤ, pos, ◌==◌, nat_le, nat_lt, slice_set}
+use Rattle.std.specs.Prelude.{ℕ, zero, suc, ◌+◌, ◌-◌, ◌*◌, ◌/◌, ◌%◌, ◌≤◌, Bool, true, cond, not, ◌&&◌, List, [], ◌∷◌, ◌++◌, map, length, drop, set, replicate, ℤ, pos, ◌==◌, nat_le, nat_lt, slice_set}
 use Rattle.std.specs.Int.Signed.{mag}
 use Rattle.refusal.specs.Refusal.{fault, ◌then◌}
 use Rattle.refusal.specs.declared.Answer.{Answer}
@@ -11,17 +11,17 @@ use Rattle.six.specs.Core.{off_voices, voices_after, sums_of, silenced, voices_i
 pub use Rattle.six.specs.Core.{voice_at, plays}
 unfoldable pub use Rattle.six.specs.Core.{any_plays}
 use Rattle.voice.specs.declared.channel_enum.Voice.{Voice}
-use Rattle.six.specs.declared.core.Sums.{Sums}
+use Rattle.six.specs.declared.unit.Sums.{Sums}
 use Rattle.vsu.specs.Constants.{frame_tick}
-use Rattle.vsu.specs.declared.core.Frame.{Frame}
-use Rattle.vsu.specs.declared.core.Moved.{Moved}
-use Rattle.vsu.specs.declared.core.Ran.{Ran}
-use Rattle.vsu.specs.declared.core.Register.{Register}
-use Rattle.vsu.specs.declared.core.Register.TheVariants as registers
-use Rattle.vsu.specs.declared.core.Said.{Said}
-use Rattle.vsu.specs.declared.core.Said.TheVariants as said
-use Rattle.vsu.specs.declared.core.Vsu.{Vsu}
-use Rattle.vsu.specs.declared.core.Written.{Written}
+use Rattle.vsu.specs.declared.unit.Frame.{Frame}
+use Rattle.vsu.specs.declared.unit.Moved.{Moved}
+use Rattle.vsu.specs.declared.unit.Ran.{Ran}
+use Rattle.vsu.specs.declared.unit.Register.{Register}
+use Rattle.vsu.specs.declared.unit.Register.TheVariants as registers
+use Rattle.vsu.specs.declared.unit.Said.{Said}
+use Rattle.vsu.specs.declared.unit.Said.TheVariants as said
+use Rattle.vsu.specs.declared.unit.Vsu.{Vsu}
+use Rattle.vsu.specs.declared.unit.Written.{Written}
 
 -- A state with one part changed.
 

@@ -2,4 +2,4 @@
 #![tactic(auto)]
 
 pub mod constants;
-pub mod core;
+pub mod unit;

@@ -1,4 +1,4 @@
-use Rattle.core.specs.Prelude.{◌≡◌, length, replicate}
+use Rattle.std.specs.Prelude.{◌≡◌, length, replicate}
 use mathlib.Core.Path.{refl}
 use Rattle.vsu.proofs.CoreLaws.{length-told}
 use Rattle.fields.proofs.WrittenLaws as laws

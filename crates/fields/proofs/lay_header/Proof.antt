@@ -1,4 +1,4 @@
-use Rattle.core.specs.Prelude.{◌≡◌, ◌-◌, ◌≤◌, take}
+use Rattle.std.specs.Prelude.{◌≡◌, ◌-◌, ◌≤◌, take}
 use mathlib.Core.Path.{refl}
 use native.Mathlib.Omega.{arith}
 use lib.Seq.{sets}

@@ -1,6 +1,6 @@
 -- n cycles, one at a time.
 use borrow.Author.Rules.{rules}
-use Rattle.core.specs.Prelude.{◌-◌}
+use Rattle.std.specs.Prelude.{◌-◌}
 use Rattle.figures.proofs.cycles.Statement.{statement}
 use Rattle.figures.proofs.cycles.Tie as tie
 

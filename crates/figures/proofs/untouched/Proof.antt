@@ -1,6 +1,6 @@
 -- Goes over every side until one differs.
 use borrow.Author.Rules.{rules}
-use Rattle.core.specs.Prelude.{◌-◌, length}
+use Rattle.std.specs.Prelude.{◌-◌, length}
 use Rattle.figures.proofs.untouched.Statement.{statement}
 use Rattle.figures.proofs.untouched.Tie as tie
 

@@ -2,7 +2,7 @@ use Rattle.player.proofs.PlayerLaws as laws
 use Rattle.player.proofs.RowsLaws as rows
 use mathlib.Core.Path.{refl}
 use native.Mathlib.Omega.{arith}
-use Rattle.core.specs.Prelude.{length}
+use Rattle.std.specs.Prelude.{length}
 use Rattle.deck.specs.Player.{play_answer}
 use borrow.Author.Rules.{rules}
 use Rattle.player.proofs.play.Statement.{statement}

@@ -1,5 +1,5 @@
 -- The measure is the number of bytes that are left.
-use Rattle.core.specs.Prelude.{◌-◌}
+use Rattle.std.specs.Prelude.{◌-◌}
 use borrow.Author.Rules.{rules}
 use Rattle.exchange.proofs.worked.lowest.Statement.{statement}
 use Rattle.exchange.proofs.worked.lowest.Tie as tie

@@ -1,4 +1,4 @@
-use Rattle.vsu.specs.declared.core.Moved.{Moved}
+use Rattle.vsu.specs.declared.unit.Moved.{Moved}
 use mathlib.Core.Path.{ap}
 use borrow.Author.Rules.{rules}
 use Rattle.player.proofs.walk.advanced.Statement.{statement}

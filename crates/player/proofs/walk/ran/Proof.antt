@@ -1,4 +1,4 @@
-use Rattle.vsu.specs.declared.core.Ran.{Ran}
+use Rattle.vsu.specs.declared.unit.Ran.{Ran}
 use mathlib.Core.Path.{ap}
 use borrow.Author.Rules.{rules}
 use Rattle.player.proofs.walk.ran.Statement.{statement}

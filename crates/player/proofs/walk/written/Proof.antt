@@ -1,4 +1,4 @@
-use Rattle.vsu.specs.declared.core.Written.{Written}
+use Rattle.vsu.specs.declared.unit.Written.{Written}
 use mathlib.Core.Path.{ap}
 use borrow.Author.Rules.{rules}
 use Rattle.player.proofs.walk.written.Statement.{statement}

@@ -1,0 +1,387 @@
+// The unit: the Rust's `VSU`.
+ghost use Rattle.std.specs.Prelude.{◌≡◌, ◌+◌, ◌*◌, ◌<◌, ◌≤◌, true, ◌++◌, length, drop, if◌then◌else◌};
+ghost use Rattle.refusal.specs.Refusal.{Tells};
+ghost use Rattle.six.specs.Core.{silenced, sums_of};
+ghost use Rattle.vsu.specs.Core.{power_on, decode_of, write_to, write, says, said_answer, frame_of, run, frames, frames_due, sides, all_at_most, in_range, unit_answer, write_of, advance_of, run_answer, run_of, SmallSums};
+
+use crate::constants::SOUND_SAMPLE_RATE_CYCLE_COUNT;
+use common::bits;
+use refusal::{Answer, Refusal};
+use voice::channel_enum;
+use voice::channel_enum::Voice;
+
+// Bit k of the mutes is for channel k.
+#[derive(Clone, Copy)]
+pub struct Vsu {
+    pub voices: [Voice; 6],
+    pub output: u32,
+    pub waves: [u8; 160],
+    pub modulation: [i8; 32],
+    pub mutes: u8,
+}
+
+#[derive(Clone, Copy)]
+pub struct Frame {
+    pub left: i16,
+    pub right: i16,
+}
+
+// Where a register write goes.
+#[derive(Clone, Copy)]
+pub enum Register {
+    Wave(usize),
+    Modulation(usize),
+    Channel { index: usize, offset: u32 },
+    Stop,
+    Nothing,
+}
+
+// What a register write says: taken, held off by playing, no such register; or why it was refused.
+#[derive(Clone, Copy)]
+pub enum Said {
+    Taken,
+    Held,
+    NoRegister,
+    Refused(Refusal),
+}
+
+// The state after a write, and what it says.
+#[derive(Clone, Copy)]
+pub struct Written {
+    pub state: Vsu,
+    pub said: Said,
+}
+
+// The state after a run without frames, and how it ended.
+#[derive(Clone, Copy)]
+pub struct Moved {
+    pub state: Vsu,
+    pub answer: Answer,
+}
+
+// The state after a run, how many frames it made, and how it ended.
+#[derive(Clone, Copy)]
+pub struct Ran {
+    pub state: Vsu,
+    pub frames: u32,
+    pub answer: Answer,
+}
+
+// Power-on.
+pub fn new() -> Vsu
+    ensures { result ≡ power_on }
+{
+    let voices = six::unit::new();
+    Vsu {
+        voices: voices,
+        output: 0,
+        waves: [0; 160],
+        modulation: [0; 32],
+        mutes: 0,
+    }
+}
+
+// Public, so that there is one address map.
+pub fn decode(address: u32) -> Register
+    ensures { result ≡ decode_of address }
+{
+    match address {
+        0x000..=0x27F => Register::Wave((address / 4) as usize),
+        0x280..=0x2FF => Register::Modulation(((address - 0x280) / 4) as usize),
+        0x400..=0x57F => Register::Channel {
+            index: ((address - 0x400) / 0x40) as usize,
+            offset: address % 0x20,
+        },
+        0x580 => Register::Stop,
+        _ => Register::Nothing,
+    }
+}
+
+fn write_wave(u: Vsu, at: usize, value: u8) -> Vsu
+    ensures { result ≡ write_to (Register.Wave at) value u }
+{
+    let voices = u.voices;
+    if six::unit::playback_occuring(voices) {
+        return u;
+    }
+    let mut t = u;
+    if at < 160 {
+        t.waves[at] = bits::field(value, 0, 6);
+    }
+    t
+}
+
+fn write_modulation(u: Vsu, at: usize, value: u8) -> Vsu
+    ensures { result ≡ write_to (Register.Modulation at) value u }
+{
+    let voices = u.voices;
+    let v = voices[4];
+    if v.channel.live.playing {
+        return u;
+    }
+    let mut t = u;
+    if at < 32 {
+        t.modulation[at] = bits::signed(value);
+    }
+    t
+}
+
+fn write_channel(u: Vsu, index: usize, offset: u32, value: u8) -> Vsu
+    ensures { result ≡ write_to (Register.Channel index offset) value u }
+{
+    let mut voices = u.voices;
+    let mut t = u;
+    if index < 6 {
+        let v = voices[index];
+        voices[index] = channel_enum::set_u8(v, offset, value);
+        t.voices = voices;
+    }
+    t
+}
+
+fn write_stop(u: Vsu, value: u8) -> Vsu
+    ensures { result ≡ write_to Register.Stop value u }
+{
+    let mut t = u;
+    if bits::flag(value, 0) {
+        let voices = u.voices;
+        let silent = six::unit::stop_all(voices);
+        t.voices = silent;
+    }
+    t
+}
+
+fn set_u8(u: Vsu, address: u32, value: u8) -> Vsu
+    ensures { result ≡ write address value u }
+{
+    let r = decode(address);
+    match r {
+        Register::Wave(at) => write_wave(u, at, value),
+        Register::Modulation(at) => write_modulation(u, at, value),
+        Register::Channel { index, offset } => write_channel(u, index, offset, value),
+        Register::Stop => write_stop(u, value),
+        Register::Nothing => u,
+    }
+}
+
+fn held_while(plays: bool) -> Said
+    ensures { result ≡ (if plays then Said.Held else Said.Taken) }
+{
+    if plays { Said::Held } else { Said::Taken }
+}
+
+fn taken_where(has: bool) -> Said
+    ensures { result ≡ (if has then Said.Taken else Said.NoRegister) }
+{
+    if has { Said::Taken } else { Said::NoRegister }
+}
+
+// What a write to an address says, of any state. Apart from the write itself: with both in one function, and the state beside the answer, each
+// voice of the six is copied part by part, and a write to a channel costs 1.8 times as much (docs/PERFORMANCE.md).
+pub fn says(u: Vsu, address: u32) -> Said
+    ensures { result ≡ says address u }
+{
+    let voices = u.voices;
+    let r = decode(address);
+    match r {
+        Register::Wave(_) => held_while(six::unit::playback_occuring(voices)),
+        Register::Modulation(_) => {
+            let fifth = voices[4];
+            held_while(fifth.channel.live.playing)
+        }
+        Register::Channel { index: at, offset } => {
+            if at < 6 {
+                let v = voices[at];
+                let k = v.kind;
+                return taken_where(channel_enum::has_offset(k, offset));
+            }
+            Said::NoRegister
+        }
+        Register::Stop => Said::Taken,
+        Register::Nothing => Said::NoRegister,
+    }
+}
+
+// The frame of six voices, those that are muted as if they were stopped. Its caller has shown that they are in range, so that each side
+// fits an i16.
+fn sample(voices: [Voice; 6], waves: &[u8; 160], mutes: u8) -> Frame
+    requires { SmallSums (sums_of waves.now (silenced mutes voices)) }
+    ensures { result ≡ frame_of waves.now (silenced mutes voices) }
+{
+    let audible = six::unit::silenced(voices, mutes);
+    let s = six::unit::mix(audible, waves);
+    Frame {
+        left: (s.left / 8 * 32) as i16,
+        right: (s.right / 8 * 32) as i16,
+    }
+}
+
+fn samples_in_range(waves: &[u8; 160]) -> bool
+    ensures { result ≡ all_at_most 63 waves.now }
+{
+    let samples: &[u8] = waves;
+    let mut small = true;
+    let mut i = 0;
+    while i < samples.len() {
+        small = small & (samples[i] <= 63);
+        i += 1;
+    }
+    small
+}
+
+// The range rules.
+pub fn in_range(u: Vsu) -> bool
+    ensures { result ≡ in_range u }
+{
+    let voices = u.voices;
+    let waves = u.waves;
+    six::unit::in_range(voices) & (u.output <= 479) & samples_in_range(&waves) & (u.mutes <= 63)
+}
+
+// The answer that a write's is: each of the three sorts is an acceptance.
+pub fn answer_in(said: Said) -> Answer
+    ensures { result ≡ said_answer said }
+{
+    match said {
+        Said::Taken => Answer::Accepted,
+        Said::Held => Answer::Accepted,
+        Said::NoRegister => Answer::Accepted,
+        Said::Refused(why) => Answer::Refused(why),
+    }
+}
+
+// A register write.
+pub fn write(u: Vsu, address: u32, value: u8) -> Written
+    ensures { (result ≡ write_of address value u) × Tells (said_answer result.said) (unit_answer u) }
+{
+    if in_range(u) {
+        let said = says(u, address);
+        return Written {
+            state: set_u8(u, address, value),
+            said: said,
+        };
+    }
+    Written {
+        state: u,
+        said: Said::Refused(Refusal::State),
+    }
+}
+
+// How many frames n cycles make.
+pub fn frames_due(u: Vsu, n: u32) -> u64
+    ensures { result ≡ frames_due u n }
+{
+    ((u.output as u64) + (n as u64)) / (SOUND_SAMPLE_RATE_CYCLE_COUNT as u64)
+}
+
+// How many of the cycles left come before the next frame, its own among them.
+fn up_to_frame(left: u32, output: u32) -> u32
+    requires { output ≤ 479 }
+    ensures { (result ≤ left) × (output + result ≤ 480) × (0 < left → 0 < result) }
+{
+    let due = SOUND_SAMPLE_RATE_CYCLE_COUNT - output;
+    if left < due { left } else { due }
+}
+
+// n cycles, whose frames fill the front of `out`. For callers that have made the two checks of `run`.
+fn step(u: Vsu, n: u32, out: &mut [i16]) -> Vsu
+    requires { (in_range u ≡ true) × (frames_due u n * 2 ≤ length out.old) }
+    ensures { (result ≡ run n u) × (out.new ≡ sides (frames n u) ++ drop (frames_due u n * 2) out.old) }
+{
+    let waves = u.waves;
+    let modulation = u.modulation;
+    let mut voices = u.voices;
+    let mut output = u.output;
+    let mut at = 0;
+    let mut i = 0;
+    while i < n {
+        let part = up_to_frame(n - i, output);
+        let next = six::unit::cycles(voices, &modulation, part);
+        voices = next;
+        i += part;
+        if output + part < SOUND_SAMPLE_RATE_CYCLE_COUNT {
+            output += part;
+        } else {
+            output = 0;
+            let f = sample(voices, &waves, u.mutes);
+            let l = f.left;
+            let r = f.right;
+            out[at] = l;
+            out[at + 1] = r;
+            at += 2;
+        }
+    }
+    let mut t = u;
+    t.voices = voices;
+    t.output = output;
+    t
+}
+
+// How many cycles of `left` go into one call of `step` with room for 64 frames.
+fn part_of(left: u32) -> u32
+    ensures { (result ≤ left) × (result ≤ 30240) × (0 < left → 0 < result) }
+{
+    if left < 30_240 { left } else { 30_240 }
+}
+
+// n cycles without frames, for callers that have checked the range: `step` into a buffer that is thrown away. With a loop of its own
+// here, `cycle` has two callers and is no longer compiled into either, and a cycle costs ten times as much (docs/PERFORMANCE.md).
+fn skip(u: Vsu, n: u32) -> Vsu
+    requires { in_range u ≡ true }
+    ensures { result ≡ run n u }
+{
+    let mut thrown = [0i16; 128];
+    let mut t = u;
+    let mut i = 0;
+    while i < n {
+        let part = part_of(n - i);
+        let next = step(t, part, &mut thrown);
+        t = next;
+        i += part;
+    }
+    t
+}
+
+// n cycles without frames.
+pub fn advance(u: Vsu, n: u32) -> Moved
+    ensures { (result ≡ advance_of n u) × Tells result.answer (unit_answer u) }
+{
+    if in_range(u) {
+        return Moved {
+            state: skip(u, n),
+            answer: Answer::Accepted,
+        };
+    }
+    Moved {
+        state: u,
+        answer: Answer::Refused(Refusal::State),
+    }
+}
+
+// n cycles, whose frames fill the front of `out`.
+pub fn run(u: Vsu, n: u32, out: &mut [i16]) -> Ran
+    ensures { (result ≡ (run_of n u out.old).ran)
+        × (out.new ≡ (run_of n u out.old).out)
+        × Tells result.answer (run_answer n u (length out.old)) }
+{
+    if !in_range(u) {
+        return Ran {
+            state: u,
+            frames: 0,
+            answer: Answer::Refused(Refusal::State),
+        };
+    }
+    let due = frames_due(u, n);
+    if due > (out.len() / 2) as u64 {
+        return Ran {
+            state: u,
+            frames: 0,
+            answer: Answer::Refused(Refusal::Room),
+        };
+    }
+    Ran {
+        state: step(u, n, out),
+        frames: due as u32,
+        answer: Answer::Accepted,
+    }
+}
