@@ -40,14 +40,11 @@ pub length-told : (X Y : Type 0) (f : X → Y) (l : List X) (n : ℕ) → length
 length-told X Y f l n e = sym (length-map l f) ∙ e
 
 -- what owning an array of signed bytes tells of its entries
-each-byte : (xs : List ℤ) (us : List Val) → shadow (each ℤ (SInt w8).own_val xs us) → all_bytes xs ≡ true
+pub bytes-told : (xs : List ℤ) (us : List Val) → shadow (each ℤ (SInt w8).own_val xs us) → all_bytes xs ≡ true
 unfolding all_at_most
-each-byte [] us p = refl
-each-byte (x ∷ xs) [] p = absurd p
-each-byte (x ∷ xs) (u ∷ us) p = rw (le-leb (mag x) 127 (omega (arith, p.0.1)), each-byte xs us p.1)
-
-pub bytes-told : (xs : List ℤ) (us : List Val) → shadow (each ℤ (SInt w8).own_val (map (λ (v : ℤ). v) xs) us) → all_bytes xs ≡ true
-bytes-told xs us p = each-byte xs us (rw map-id at p)
+bytes-told [] us p = refl
+bytes-told (x ∷ xs) [] p = absurd p
+bytes-told (x ∷ xs) (u ∷ us) p = rw (le-leb (mag x) 127 (omega (arith, p.0.1)), bytes-told xs us p.1)
 
 pub range-told : (u : Vsu) → length u.voices ≡ 6 → length u.waves ≡ 160 → length u.modulation ≡ 32 → all_bytes u.modulation ≡ true → {v w : Bool} → v ≡ voices_in_range u.voices → w ≡ all_at_most 63 u.waves → (v && leb u.output 479 && w && leb u.mutes 63) ≡ in_range u
 unfolding in_range shaped

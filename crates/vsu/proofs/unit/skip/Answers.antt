@@ -22,7 +22,7 @@ pub loop-i-smaller : goal.loop-i-smaller
 loop-i-smaller c = omega (arith, c.part_of-part.ensures.2 (omega arith))
 
 pub loop-i-preserved : goal.loop-i-preserved
-loop-i-preserved c = (omega arith, (c.step-next.ensures.0) ∙ ap (run c.part_of-part.result) c.loop-i.invariant.1 ∙ sym (laws.run-add c.loop-i.i c.part_of-part.result c.args.u), (c.step-next.auto.1.1.0) ∙ c.loop-i.invariant.2)
+loop-i-preserved c = (omega arith, (c.step-next.ensures.0) ∙ ap (run c.part_of-part.result) c.loop-i.invariant.1 ∙ sym (laws.run-add c.loop-i.i c.part_of-part.result c.args.u), c.step-next.auto.out ∙ c.loop-i.invariant.2)
 
 pub returns : goal.returns
 returns c = let all : c.loop-i.i ≡ c.args.n = omega arith in c.loop-i.invariant.1 ∙ ap (λ (k : ℕ). run k c.args.u) all

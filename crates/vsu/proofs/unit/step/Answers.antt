@@ -1,6 +1,6 @@
 use mir.Val.{to_z, of_z}
 use mir.Syntax.{w16}
-use Rattle.std.specs.Prelude.{◌≡◌, ◌+◌, ◌-◌, ◌*◌, ◌^◌, ◌<◌, ◌≤◌, List, length, set, ℤ}
+use Rattle.std.specs.Prelude.{◌≡◌, ℕ, ◌+◌, ◌-◌, ◌*◌, ◌^◌, ◌<◌, ◌≤◌, List, length, set, ℤ}
 use mathlib.Core.Path.{ap₂, subst, sym}
 use native.Mathlib.Omega.{arith}
 use lib.ListN.{length-set}
@@ -32,8 +32,8 @@ loop-i-preserved-then-output-part-lt-SOUND_SAMPLE_RATE_CYCLE_COUNT c = laws.quie
 pub sample-f-requires : goal.sample-f-requires
 sample-f-requires c = laws.sums c.requires.0 c.requires.1 c.loop-i.invariant c.up_to_frame-part.ensures.0 c.cycles-next.ensures
 
-abbrev put : goal.After-struct-told2 → ℤ → ℤ → List ℤ
-put c x y = set (set c.loop-i.out c.loop-i.at x) (c.loop-i.at + 1) y
+abbrev put : List ℤ → ℕ → ℤ → ℤ → List ℤ
+put out at x y = set (set out at x) (at + 1) y
 
 pub offset_bounds-out-at : goal.offset_bounds-out-at
 offset_bounds-out-at c = omega (arith, (let room' : c.loop-i.at + 1 < length c.args.out.now = laws.room c.requires.0 c.requires.1 c.loop-i.invariant c.up_to_frame-part.ensures.0 c.cycles-next.ensures (let some' : 0 < c.up_to_frame-part.result = c.up_to_frame-part.ensures.2 (omega arith) in some') (let due' : c.loop-i.output + c.up_to_frame-part.result ≡ 480 = omega (arith, c.up_to_frame-part.ensures.1, c.if-output-part-lt-SOUND_SAMPLE_RATE_CYCLE_COUNT.false) in due') in room'), (let bytes' : length c.args.out.now * 2 < 2 ^ 63 = c.well_formed.1.1.0.1 in bytes'))
@@ -58,9 +58,9 @@ loop-i-smaller c = omega (arith, c.up_to_frame-part.ensures.0, (let some' : 0 < 
 
 pub loop-i-preserved : goal.loop-i-preserved
 loop-i-preserved c =
-    subst (laws.Stands _ _ _ _ _ _ _) (sym (let stored' : put c (to_z w16 (of_z w16 c.sample-f.result.left)) (to_z w16 (of_z w16 c.sample-f.result.right)) ≡ put c c.sample-f.result.left c.sample-f.result.right = let l : to_z w16 (of_z w16 c.sample-f.result.left) ≡ c.sample-f.result.left = search rules in
+    subst (laws.Stands _ _ _ _ _ _ _) (sym (let stored' : put c.loop-i.out c.loop-i.at (to_z w16 (of_z w16 c.sample-f.result.left)) (to_z w16 (of_z w16 c.sample-f.result.right)) ≡ put c.loop-i.out c.loop-i.at c.sample-f.result.left c.sample-f.result.right = let l : to_z w16 (of_z w16 c.sample-f.result.left) ≡ c.sample-f.result.left = search rules in
     let r : to_z w16 (of_z w16 c.sample-f.result.right) ≡ c.sample-f.result.right = search rules in
-    ap₂ (put c) l r in stored'))
+    ap₂ (put c.loop-i.out c.loop-i.at) l r in stored'))
     (laws.frame-turn c.requires.0 c.requires.1 c.loop-i.invariant c.up_to_frame-part.ensures.0 c.cycles-next.ensures (let some' : 0 < c.up_to_frame-part.result = c.up_to_frame-part.ensures.2 (omega arith) in some') (let due' : c.loop-i.output + c.up_to_frame-part.result ≡ 480 = omega (arith, c.up_to_frame-part.ensures.1, c.if-output-part-lt-SOUND_SAMPLE_RATE_CYCLE_COUNT.false) in due') c.sample-f.ensures)
 
 pub shape_of-out : goal.shape_of-out
