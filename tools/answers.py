@@ -70,6 +70,8 @@ def paths(text, way, told):
             first = plain(re.sub(r"_Is([A-Z])", lambda k: "-" + k.group(1).lower(), parts[0]))
             if first in way:
                 parts[0] = way[first]
+            elif first.lower() in way or first.lower().replace("-lem", "") in way:
+                parts[0] = way.get(first.lower()) or way[first.lower().replace("-lem", "")]
             elif first == "well-formed":
                 parts[0] = "well_formed"
             elif first not in ("type_inv", "well_formed", "args", "requires", "ranges", "type-inv", "utf8", "auto", "captures"):

@@ -63,7 +63,7 @@ byte-of e f p q = rw (q, p, to_z-of_z f) (addend-low e f)
 
 pub byte_at : (m : List ℤ) (i : ℕ) {x : ℕ} → mag (get_or m i (pos 0)) < 128 → x ≡ byte_of (to_z w8 (of_z w8 (get_or m i (pos 0)))) →
     x ≡ get_or (map byte_of m) i (byte_of (pos 0))
-byte_at m i h p = p ∙ ap byte_of (to_z-of_z (record { sfits = h })) ∙ sym (get_or-map byte_of m i (pos 0))
+byte_at m i h p = p ∙ ap byte_of (to_z-of_z {w = w8} (record { sfits = h })) ∙ sym (get_or-map byte_of m i (pos 0))
 
 -- the fields of a voice and of the tail, one by one
 

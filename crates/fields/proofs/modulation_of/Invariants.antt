@@ -1,0 +1,15 @@
+use Rattle.std.specs.Prelude.{◌≡◌, ◌-◌, ◌≤◌, map, length, take, drop}
+use mathlib.Core.Path.{refl}
+use native.Mathlib.Omega.{arith}
+use Rattle.little.proofs.LittleLaws as little
+use Rattle.table.specs.Table.{modulation_from, newest}
+use Rattle.fields.specs.Fields.{entry_by}
+use Rattle.fields.proofs.FieldsLaws as laws
+use borrow.Author.Rules.{rules}
+use Rattle.fields.proofs.modulation_of.Given as goal
+
+abbrev pub invariant-loop-i : goal.invariant-loop-i
+invariant-loop-i l = (l.i ≤ 32) × (length l.modulation ≡ 32) × (take l.i l.modulation ≡ take l.i (map entry_by (take 32 (drop modulation_from l.f))))
+
+abbrev pub decreases-loop-i : goal.decreases-loop-i
+decreases-loop-i l = 32 - l.i

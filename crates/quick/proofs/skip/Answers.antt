@@ -1,0 +1,13 @@
+use Rattle.vsu.specs.Core.{run}
+use Rattle.vsu.proofs.RunLaws as laws
+use Rattle.vsu.proofs.RangeLaws.{range-facts, run-voices}
+use mathlib.Core.Path.{◌∙◌, sym}
+use borrow.Author.Rules.{rules}
+use Rattle.quick.proofs.skip.Goals as goal
+
+pub cycles-next-requires : goal.cycles-next-requires
+unfolding run
+cycles-next-requires c = run-voices 0 _ c.requires
+
+pub returns : goal.returns
+returns c = laws.run_is _ _ (c.cycles-next.ensures ∙ sym (laws.voices-at _ _)) (c.output_after.ensures ∙ sym (laws.output-at _ (range-facts _ c.requires).output _))

@@ -1,0 +1,14 @@
+use Rattle.quick.specs.Voices.{far_from, voices_far}
+use Rattle.std.specs.Prelude.{◌≡◌, ◌-◌, ◌≤◌, length, drop}
+use mathlib.Core.Path.{refl, ◌∙◌, ap}
+use Rattle.leaps.specs.Distance.{least}
+use Rattle.quick.proofs.VoicesLaws as laws
+use native.Mathlib.Omega.{arith}
+use borrow.Author.Rules.{rules}
+use Rattle.quick.proofs.voices.far.Given as goal
+
+abbrev pub invariant-loop-i : goal.invariant-loop-i
+invariant-loop-i l = (l.i ≤ 6) × (voices_far l.voices ≡ far_from l.nearest (drop l.i l.voices))
+
+abbrev pub decreases-loop-i : goal.decreases-loop-i
+decreases-loop-i l = 6 - l.i
