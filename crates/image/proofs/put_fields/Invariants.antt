@@ -1,0 +1,16 @@
+use Rattle.std.specs.Prelude.{◌≡◌, ◌-◌, ◌≤◌, length}
+use mathlib.Core.Path.{refl, ap, ◌∙◌}
+use native.Mathlib.Omega.{arith}
+use lib.Seq.{length-sets, sets}
+use Rattle.image.specs.Image.{bytes_of}
+use Rattle.table.specs.Table.{newest}
+use Rattle.table.proofs.TableLaws.{newest-laid}
+use Rattle.image.proofs.ImageLaws as laws
+use borrow.Author.Rules.{rules}
+use Rattle.image.proofs.put_fields.Given as goal
+
+abbrev pub invariant-loop-i : goal.invariant-loop-i
+invariant-loop-i l = (l.i ≤ 326) × (l.out ≡ sets l.initial.out 0 (bytes_of newest l.f l.i))
+
+abbrev pub decreases-loop-i : goal.decreases-loop-i
+decreases-loop-i l = 326 - l.i
