@@ -1,0 +1,9 @@
+use Rattle.player.proofs.PlayerLaws as laws
+use borrow.Author.Rules.{rules}
+use Rattle.player.proofs.on_to.Goals as goal
+
+pub skip_to-w-requires : goal.skip_to-w-requires
+skip_to-w-requires c = rw c.unit_of.ensures c.requires
+
+pub returns : goal.returns
+returns c = laws.moved _ c.args.p c.requires c.unit_of.ensures c.skip_to-w.ensures.0 c.skip_to-w.ensures.1 c.walked.ensures

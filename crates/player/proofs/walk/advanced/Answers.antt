@@ -1,0 +1,7 @@
+use Rattle.vsu.specs.declared.unit.Moved.{Moved}
+use mathlib.Core.Path.{ap}
+use borrow.Author.Rules.{rules}
+use Rattle.player.proofs.walk.advanced.Goals as goal
+
+pub returns : goal.returns
+returns c = ap (λ (m : Moved). m.state) c.advance-m.ensures.0

@@ -1,0 +1,7 @@
+use Rattle.vsu.specs.declared.unit.Written.{Written}
+use mathlib.Core.Path.{ap}
+use borrow.Author.Rules.{rules}
+use Rattle.player.proofs.walk.written.Goals as goal
+
+pub returns : goal.returns
+returns c = ap (λ (m : Written). m.state) c.write-m.ensures.0
