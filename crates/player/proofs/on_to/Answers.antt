@@ -6,4 +6,4 @@ pub skip_to-w-requires : goal.skip_to-w-requires
 skip_to-w-requires c = rw c.unit_of.ensures c.requires
 
 pub returns : goal.returns
-returns c = laws.moved _ c.args.p c.requires c.unit_of.ensures c.skip_to-w.ensures.0 c.skip_to-w.ensures.1 c.walked.ensures
+returns c = laws.moved _ c.args.p c.requires c.unit_of.ensures c.skip_to-w.ensures.unit_value c.skip_to-w.ensures.applied_value c.walked.ensures

@@ -20,4 +20,4 @@ pub overflow_cast-due : goal.overflow_cast-due
 overflow_cast-due c = omega (arith, laws.play-due c.args.p c.args.n c.args.log.now c.args.out.now (laws.play-goes c.args.p c.args.n c.args.log.now c.args.out.now (laws.play-rows c.args.p c.args.n c.args.log.now c.args.out.now c.standing-c.ensures refl c.is_past.ensures c.row-c.ensures c.unit_of-u.ensures c.frames_due-due.ensures c.row-c-2.ensures) c.stops.ensures c.if-stops.false) c.unit_of-u.ensures c.frames_due-due.ensures, c.ranges.n)
 
 pub returns : goal.returns
-returns c = laws.play-made c.args.p c.args.n c.args.log.now c.args.out.now (laws.play-goes c.args.p c.args.n c.args.log.now c.args.out.now (laws.play-rows c.args.p c.args.n c.args.log.now c.args.out.now c.standing-c.ensures refl c.is_past.ensures c.row-c.ensures c.unit_of-u.ensures c.frames_due-due.ensures c.row-c-2.ensures) c.stops.ensures c.if-stops.false) (rows.gone-count c.args.log.now (play_answer c.args.p c.args.n c.args.log.now (length c.args.out.now)) (laws.play-rows c.args.p c.args.n c.args.log.now c.args.out.now c.standing-c.ensures refl c.is_past.ensures c.row-c.ensures c.unit_of-u.ensures c.frames_due-due.ensures c.row-c-2.ensures) (laws.play-goes c.args.p c.args.n c.args.log.now c.args.out.now (laws.play-rows c.args.p c.args.n c.args.log.now c.args.out.now c.standing-c.ensures refl c.is_past.ensures c.row-c.ensures c.unit_of-u.ensures c.frames_due-due.ensures c.row-c-2.ensures) c.stops.ensures c.if-stops.false) c.count_of.ensures) refl c.unit_of-u.ensures c.frames_due-due.ensures c.run_to-h.ensures.0 c.run_to-h.ensures.1.0 c.run_to-h.ensures.1.1.0 c.run_to-h.ensures.1.1.1 c.played.ensures
+returns c = laws.play-made c.args.p c.args.n c.args.log.now c.args.out.now (laws.play-goes c.args.p c.args.n c.args.log.now c.args.out.now (laws.play-rows c.args.p c.args.n c.args.log.now c.args.out.now c.standing-c.ensures refl c.is_past.ensures c.row-c.ensures c.unit_of-u.ensures c.frames_due-due.ensures c.row-c-2.ensures) c.stops.ensures c.if-stops.false) (rows.gone-count c.args.log.now (play_answer c.args.p c.args.n c.args.log.now (length c.args.out.now)) (laws.play-rows c.args.p c.args.n c.args.log.now c.args.out.now c.standing-c.ensures refl c.is_past.ensures c.row-c.ensures c.unit_of-u.ensures c.frames_due-due.ensures c.row-c-2.ensures) (laws.play-goes c.args.p c.args.n c.args.log.now c.args.out.now (laws.play-rows c.args.p c.args.n c.args.log.now c.args.out.now c.standing-c.ensures refl c.is_past.ensures c.row-c.ensures c.unit_of-u.ensures c.frames_due-due.ensures c.row-c-2.ensures) c.stops.ensures c.if-stops.false) c.count_of.ensures) refl c.unit_of-u.ensures c.frames_due-due.ensures c.run_to-h.ensures.unit_value c.run_to-h.ensures.applied_value c.run_to-h.ensures.counts_value c.run_to-h.ensures.out_after c.played.ensures

@@ -88,4 +88,9 @@ shape_of-out c = laws.play-long (laws.Log c.args.log.now c.args.count) c.args.u 
 pub returns : goal.returns
 returns c =
     let w = laws.walk_ends (laws.Log c.args.log.now c.args.count) c.args.u c.args.start c.args.target c.loop-cycle.invariant.walking c.loop-cycle-test.false in
-    (ap (λ (h : Heard). h.walked.unit) c.arrived.ensures ∙ w.0, (ap (λ (h : Heard). h.walked.applied) c.arrived.ensures ∙ w.1, (ap (λ (h : Heard). h.counts) c.arrived.ensures ∙ laws.play-counted (laws.Log c.args.log.now c.args.count) c.args.u c.args.start c.args.target c.requires.0.ranged c.args.out.now c.requires.1 c.loop-cycle.invariant c.loop-cycle-test.false, laws.play-ends (laws.Log c.args.log.now c.args.count) c.args.u c.args.start c.args.target c.requires.0.ranged c.args.out.now c.requires.1 c.loop-cycle.invariant c.loop-cycle-test.false)))
+    record {
+      unit_value = ap (λ (h : Heard). h.walked.unit) c.arrived.ensures ∙ w.0;
+      applied_value = ap (λ (h : Heard). h.walked.applied) c.arrived.ensures ∙ w.1;
+      counts_value = ap (λ (h : Heard). h.counts) c.arrived.ensures ∙ laws.play-counted (laws.Log c.args.log.now c.args.count) c.args.u c.args.start c.args.target c.requires.0.ranged c.args.out.now c.requires.1 c.loop-cycle.invariant c.loop-cycle-test.false;
+      out_after = laws.play-ends (laws.Log c.args.log.now c.args.count) c.args.u c.args.start c.args.target c.requires.0.ranged c.args.out.now c.requires.1 c.loop-cycle.invariant c.loop-cycle-test.false;
+    }

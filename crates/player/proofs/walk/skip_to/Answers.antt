@@ -24,4 +24,6 @@ pub loop-cycle-preserved : goal.loop-cycle-preserved
 loop-cycle-preserved c = laws.walk-advances (laws.Log c.args.log.now c.args.count) c.args.u c.args.start c.args.target c.loop-cycle.invariant (laws.log-quiet c.args.log.now c.args.count c.args.u c.args.start c.args.applied c.args.target c.requires c.loop-cycle.invariant c.next_due-due.ensures c.if-due-cycle.false) c.advanced-unit.ensures
 
 pub returns : goal.returns
-returns c = laws.walk_ends (laws.Log c.args.log.now c.args.count) c.args.u c.args.start c.args.target c.loop-cycle.invariant c.loop-cycle-test.false
+returns c =
+    let ends = laws.walk_ends (laws.Log c.args.log.now c.args.count) c.args.u c.args.start c.args.target c.loop-cycle.invariant c.loop-cycle-test.false in
+    record { unit_value = ends.0; applied_value = ends.1 }
