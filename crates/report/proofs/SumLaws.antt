@@ -71,7 +71,7 @@ module _ (z : ℤ) (f : SFits w16 z) where
   wide_fits = rw (to_z-of_z f) (sfits_widen tt f)
 
   wide_is : to_z w32 (of_z w32 (to_z w16 (of_z w16 z))) ≡ z
-  wide_is = ap (λ (y : ℤ). to_z w32 (of_z w32 y)) (to_z-of_z f) ∙ to_z-of_z (sfits_widen tt f)
+  wide_is = ap (λ (y : ℤ). to_z w32 (of_z w32 y)) (to_z-of_z f) ∙ to_z-of_z {w = w32} (sfits_widen {w = w16} {w' = w32} {z = z} (tt {0}) f)
 
   module _ (h : lt_z (to_z w16 (of_z w16 z)) (pos 0) ≡ true) where
     below : lt_z z (pos 0) ≡ true

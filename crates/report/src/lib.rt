@@ -1,7 +1,9 @@
-// What the programs print: text laid in a buffer, lines, the sums of frames and bytes, the progress of long work.
+// What the programs print: text laid in a buffer, lines, the sums of frames and bytes, the progress of long work; and where they print it.
 #![tactic(auto)]
 
 pub mod print;
 pub mod progress;
+pub mod streams;
 pub mod sum;
+pub mod terminal;
 pub mod text;

@@ -1,7 +1,8 @@
 // Lines on standard output, and what is said where they can't be written.
 ghost use Rattle.std.specs.Prelude.{◌≤◌, length};
 
-use libc::{STDERR_FILENO, STDOUT_FILENO};
+use crate::streams::{STDERR_FILENO, STDOUT_FILENO};
+use crate::terminal::Terminals;
 
 // Where the next `#` of a form is, from a place on; the end where there is none.
 fn next(form: &[u8], from: usize) -> usize
@@ -33,8 +34,8 @@ pub fn line(form: &[u8], numbers: &[u64]) {
 }
 
 // On a terminal the line may hold how much is done, and the message goes over it. It answers nothing either.
-pub fn unwritten(program: &[u8]) {
-    if libc::isatty(STDERR_FILENO) == 1 {
+pub fn unwritten(program: &[u8], terminals: Terminals) {
+    if terminals.error {
         io::write_all(STDERR_FILENO, b"\r");
     }
     io::write_all(STDERR_FILENO, program);

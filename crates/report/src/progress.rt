@@ -2,7 +2,8 @@
 ghost use Rattle.std.specs.Prelude.{◌≡◌};
 ghost use Rattle.report.specs.Progress.{percent_of};
 
-use libc::STDERR_FILENO;
+use crate::streams::STDERR_FILENO;
+use crate::terminal::Terminals;
 
 fn percent(done: u32, all: u32) -> u32
     ensures { result ≡ percent_of done all }
@@ -14,12 +15,12 @@ fn percent(done: u32, all: u32) -> u32
 }
 
 // How much is done, in hundredths; told on standard error, where that is a terminal, when it is another number than the last.
-pub fn show(last: u32, done: u32, all: u32) -> u32
+pub fn show(last: u32, done: u32, all: u32, terminals: Terminals) -> u32
     ensures { result ≡ percent_of done all }
 {
     let now = percent(done, all);
     if now != last {
-        if libc::isatty(STDERR_FILENO) == 1 {
+        if terminals.error {
             io::write_all(STDERR_FILENO, b"\r");
             io::print_decimal(STDERR_FILENO, now as u64);
             io::write_all(STDERR_FILENO, b"%");
