@@ -1,8 +1,8 @@
 // The check of a log, ten thousand times, as bench/check.c makes it.
 ghost use Rattle.std.specs.Prelude.{◌≤◌, length};
 
-use libc::{STDIN_FILENO, STDOUT_FILENO};
 use register_log::Checked;
+use report::streams::{STDIN_FILENO, STDOUT_FILENO};
 
 fn word(text: &[u8], n: u32) {
     io::write_all(STDOUT_FILENO, text);

@@ -9,7 +9,7 @@
 mod adds;
 mod logs;
 
-use libc::{STDIN_FILENO, STDOUT_FILENO};
+use report::streams::{STDIN_FILENO, STDOUT_FILENO};
 use report::sum::of_frames;
 use vsu::unit;
 use vsu::unit::{Ran, Vsu};

@@ -1,8 +1,8 @@
 // The lines.
 ghost use Rattle.std.specs.Prelude.{◌≤◌};
 
-use libc::STDOUT_FILENO;
 use refusal::Refusal;
+use report::streams::STDOUT_FILENO;
 use report::{sum, text};
 
 // Of an end past the text's own, which nothing here answers, nothing.

@@ -3,7 +3,7 @@ ghost use Rattle.std.specs.Prelude.{◌≤◌};
 
 use crate::output;
 use deck::Player;
-use libc::STDOUT_FILENO;
+use report::terminal::Terminals;
 use report::{progress, text};
 
 // The most frames of a span, and its cycles.
@@ -81,16 +81,16 @@ fn lines(
 }
 
 // The hundredths, where anybody is told.
-fn shown(last: u32, done: u32, all: u32, aside: bool) -> u32 {
-    if aside {
-        return progress::show(last, done, all);
+fn shown(last: u32, done: u32, all: u32, terminals: Terminals) -> u32 {
+    if (all > SPAN) & !terminals.output {
+        return progress::show(last, done, all, terminals);
     }
     last
 }
 
 // n of a log's cycles, at most a span, up to a cycle that is not beyond its end: so neither call is refused. A bounce hands the player
 // back as given, and the seek moves it on. A line has at most 104 bytes, so there is room for a line of each frame.
-fn span(l: Listing, n: u32, to: u32, log: &[u8], cycles: u32, aside: bool) -> Listing {
+fn span(l: Listing, n: u32, to: u32, log: &[u8], cycles: u32, terminals: Terminals) -> Listing {
     let mut one = [0i16; 512];
     let mut two = [0i16; 512];
     let mut three = [0i16; 512];
@@ -111,14 +111,13 @@ fn span(l: Listing, n: u32, to: u32, log: &[u8], cycles: u32, aside: bool) -> Li
     Listing {
         player: q,
         written: output::put(&out, at),
-        told: shown(l.told, to, cycles, aside),
+        told: shown(l.told, to, cycles, terminals),
     }
 }
 
 // Whether all frames are listed. Progress is told aside, not where the lines go to a terminal: the two would mix; and not of a log of one
 // span, which is done before there is anything to tell. No first span comes to the 100, so the first is told.
-pub(crate) fn list(log: &[u8], cycles: u32) -> bool {
-    let aside = (cycles > SPAN) & (libc::isatty(STDOUT_FILENO) != 1);
+pub(crate) fn list(log: &[u8], cycles: u32, terminals: Terminals) -> bool {
     let t = player::open(log);
     let p = t.player;
     let mut l = Listing {
@@ -129,11 +128,11 @@ pub(crate) fn list(log: &[u8], cycles: u32) -> bool {
     let mut at: u32 = 0;
     while cycles - at > SPAN {
         at += SPAN;
-        l = span(l, SPAN, at, log, cycles, aside);
+        l = span(l, SPAN, at, log, cycles, terminals);
         if !l.written {
             return false;
         }
     }
-    let last = span(l, cycles - at, cycles, log, cycles, aside);
+    let last = span(l, cycles - at, cycles, log, cycles, terminals);
     last.written
 }

@@ -1,13 +1,13 @@
 // Standard input, cut into lines, each of them a call.
 use crate::answer::Numbers;
 use crate::call::Call;
-use crate::{answer, call, output};
+use crate::{answer, call, failure, output};
 use deck::{MEMORY_SIZE, Player};
-use libc::STDIN_FILENO;
 use lines::input;
 use lines::input::Input;
 use refusal::Answer;
 use report::text;
+use std::io::{Read, Stdin, Stdout};
 
 fn call_in(line: &[u8; 17], kept: usize) -> Call {
     let front: &[u8] = line;
@@ -17,8 +17,8 @@ fn call_in(line: &[u8; 17], kept: usize) -> Call {
     Call::Unknown
 }
 
-fn put(text: &[u8; 1024], end: usize) {
-    output::put(text, end);
+fn put(to: Stdout, text: &[u8; 1024], end: usize) {
+    output::put(to, text, end);
 }
 
 fn newline(text: &mut [u8; 1024], at: usize) -> usize {
@@ -26,17 +26,18 @@ fn newline(text: &mut [u8; 1024], at: usize) -> usize {
 }
 
 // The longest line, an image's, has 847 bytes.
-fn tell(call: Call, a: Answer, n: Numbers, image: &[u8]) {
+fn tell(to: Stdout, call: Call, a: Answer, n: Numbers, image: &[u8]) {
     let mut text = [0u8; 1024];
     let at = match a {
         Answer::Accepted => answer::accepted(call, n, image, &mut text),
         Answer::Refused(why) => answer::refused(why, n, &mut text),
     };
     let end = newline(&mut text, at);
-    put(&text, end);
+    put(to, &text, end);
 }
 
 fn answered(
+    to: Stdout,
     p: Player,
     call: Call,
     log: &[u8],
@@ -50,31 +51,28 @@ fn answered(
     let a = r.answer;
     let counts = r.counts;
     let n = answer::told(q, call, r.frames, counts, free, memory, sides);
-    tell(call, a, n, &image);
+    tell(to, call, a, n, &image);
     q
 }
 
-fn failed(got: isize) -> bool {
-    if got < 0 {
-        os::fail(b"standard input");
-        return true;
-    }
-    false
-}
-
 // The next byte, or, where all that were read are used, the next read.
-fn next(i: Input, bytes: &mut [u8; 4096], line: &mut [u8; 17]) -> Input {
+fn next(i: Input, mut from: Stdin, bytes: &mut [u8; 4096], line: &mut [u8; 17]) -> Input {
     if i.at < i.size {
         return input::stepped(i, bytes, line);
     }
-    let got = libc::read(STDIN_FILENO, bytes);
-    input::filled(i, io::count(got, bytes), failed(got))
+    match from.read(bytes) {
+        Ok(size) => input::filled(i, size, false),
+        Err(why) => {
+            failure::told(b"standard input", why);
+            input::filled(i, 0, true)
+        }
+    }
 }
 
 // A line is the bytes up to a newline; a rest without one at the end is a line too. The frame buffer holds 32,768 frames. A line that
 // fills the 17 bytes of its front, one more than the longest call, `clear 4294967295`, has, is no call, however long it is. Nothing says
 // that the input ends, so the loop counts its turns down, from a number that no run uses up.
-pub(crate) fn run(log: &[u8]) {
+pub(crate) fn run(from: Stdin, to: Stdout, log: &[u8]) {
     let mut bytes = [0u8; 4096];
     let mut line = [0u8; 17];
     let mut memory = [0u8; MEMORY_SIZE];
@@ -84,9 +82,16 @@ pub(crate) fn run(log: &[u8]) {
     let mut i = input::new();
     let mut left = u64::MAX;
     while left > 0 && i.more {
-        i = next(i, &mut bytes, &mut line);
+        i = next(i, from, &mut bytes, &mut line);
         if i.ended {
-            p = answered(p, call_in(&line, i.kept), log, &mut memory, &mut sides);
+            p = answered(
+                to,
+                p,
+                call_in(&line, i.kept),
+                log,
+                &mut memory,
+                &mut sides,
+            );
             i = input::begun(i);
         }
         left -= 1;

@@ -4,14 +4,20 @@
 mod answer;
 mod call;
 mod console;
+mod failure;
 mod output;
 
 ghost use Rattle.std.specs.Prelude.{◌≤◌, length};
 
-use libc::STDERR_FILENO;
 use refusal::Refusal;
 use register_log::Checked;
+use report::streams::STDERR_FILENO;
 use report::text;
+use std::env::FillError;
+use std::fs::File;
+use std::io::{Error, ErrorKind, Read, Stdin, Stdout};
+use std::rt::{Env, Files};
+use std::{io as streams, str};
 
 // The most bytes of a log's file.
 const MOST: usize = 1_048_576;
@@ -23,23 +29,32 @@ struct Taken {
     failed: bool,
 }
 
-fn read_some(fd: i32, space: &mut [u8]) -> Taken
+// Why a read failed is told at once.
+fn read_some(file: &mut File, path: &[u8], space: &mut [u8]) -> Taken
     ensures { result.size ≤ length space.old }
 {
-    let got = libc::read(fd, space);
-    Taken {
-        size: io::count(got, space),
-        failed: got < 0,
+    match file.read(space) {
+        Ok(size) => Taken {
+            size: size,
+            failed: false,
+        },
+        Err(why) => {
+            failure::told(path, why);
+            Taken {
+                size: 0,
+                failed: true,
+            }
+        }
     }
 }
 
 // A read may bring a part only, as of a pipe.
-fn read_all(fd: i32, space: &mut [u8]) -> Taken
+fn read_all(file: &mut File, path: &[u8], space: &mut [u8]) -> Taken
     ensures { result.size ≤ length space.new }
 {
     let mut size = 0;
     while size < space.len() {
-        let t = read_some(fd, &mut space[size..]);
+        let t = read_some(file, path, &mut space[size..]);
         if t.size == 0 {
             return Taken {
                 size: size,
@@ -54,67 +69,73 @@ fn read_all(fd: i32, space: &mut [u8]) -> Taken
     }
 }
 
-fn refused(why: Refusal) {
+fn refused(to: Stdout, why: Refusal) {
     let mut text = [0u8; 64];
     let a = text::refused(&mut text, 0, why);
     let end = text::words(&mut text, a, b"\n");
-    output::put(&text, end);
+    output::put(to, &text, end);
 }
 
-fn opened(count: u32, cycles: u32) {
+fn opened(to: Stdout, count: u32, cycles: u32) {
     let mut text = [0u8; 64];
     let a = output::labelled(&mut text, 0, b"open entries ", count);
     let b = output::labelled(&mut text, a, b" cycles ", cycles);
     let end = text::words(&mut text, b, b"\n");
-    output::put(&text, end);
+    output::put(to, &text, end);
 }
 
-fn drive(log: &[u8]) {
+fn drive(from: Stdin, to: Stdout, log: &[u8]) {
     let c = register_log::check_log(log);
     match c {
         Checked::Log { count, cycles } => {
-            opened(count, cycles);
-            console::run(log);
+            opened(to, count, cycles);
+            console::run(from, to, log);
         }
-        Checked::Refused(why) => refused(why),
+        Checked::Refused(why) => refused(to, why),
     }
-}
-
-// Why a read failed is told before the file is closed, which may change the reason.
-fn take_file(fd: i32, path: &[u8], space: &mut [u8]) -> Taken
-    ensures { result.size ≤ length space.new }
-{
-    let t = read_all(fd, space);
-    if t.failed {
-        os::fail(path);
-    }
-    libc::close(fd);
-    t
 }
 
 // There is room for one byte more than a log may have, so that a longer one shows.
-fn drive_file(path: &[u8]) {
-    let fd = os::open_read(path);
-    if fd < 0 {
-        os::fail(path);
-        return;
-    }
+fn drive_file(mut file: File, path: &[u8], from: Stdin, to: Stdout) {
     let mut space = [0u8; 1048577];
-    let t = take_file(fd, path, &mut space);
+    let t = read_all(&mut file, path, &mut space);
+    drop(file);
     let size = t.size;
     if size > MOST {
-        refused(Refusal::Room);
+        refused(to, Refusal::Room);
     } else if !t.failed {
-        drive(&space[..size]);
+        drive(from, to, &space[..size]);
     }
 }
 
-fn main() {
+// A name is text here.
+fn open(rt: &HostRuntime, path: &[u8]) -> streams::Result<File> {
+    match str::from_utf8(path) {
+        Ok(name) => File::open(rt, name),
+        Err(_) => Err(Error::from(ErrorKind::InvalidFilename)),
+    }
+}
+
+// The one argument; its length.
+fn named(rt: &HostRuntime, path: &mut [u8; 4096]) -> Option<usize>
+    ensures { IfSome result (λ n. n ≤ length path.new) }
+{
+    let mut second = [0u8; 1];
+    if let Err(FillError::NotPresent) = rt.arg(2, &mut second) {
+        return rt.arg(1, path).ok();
+    }
+    None
+}
+
+fn main(rt: HostRuntime) {
     let mut path = io::buffer();
-    let length = os::arg(1, &mut path);
-    if (os::errno() != 0) | (os::arg_count() != 2) {
+    let Some(length) = named(&rt, &mut path) else {
         io::write_all(STDERR_FILENO, b"usage: drive FILE\n");
         return;
+    };
+    let path = &path[..length];
+    match open(&rt, path) {
+        Ok(file) => drive_file(file, path, rt.stdin(), rt.stdout()),
+        Err(why) => failure::told(path, why),
     }
-    drive_file(&path[..length]);
 }

@@ -1,6 +1,7 @@
 // A line's parts, and the line written out at once, so that it is answered before the next is waited for.
-use libc::STDOUT_FILENO;
+use crate::failure;
 use report::text;
+use std::io::{Stdout, Write};
 
 // A 32-bit number behind its word.
 pub(crate) fn labelled(out: &mut [u8], at: usize, word: &[u8], n: u32) -> usize {
@@ -8,10 +9,10 @@ pub(crate) fn labelled(out: &mut [u8], at: usize, word: &[u8], n: u32) -> usize 
 }
 
 // Of an end past the text's own, which nothing here answers, nothing.
-pub(crate) fn put(text: &[u8], end: usize) {
+pub(crate) fn put(mut to: Stdout, text: &[u8], end: usize) {
     if end <= text.len() {
-        if !io::write_all(STDOUT_FILENO, &text[..end]) {
-            os::fail(b"standard output");
+        if let Err(why) = to.write_all(&text[..end]) {
+            failure::told(b"standard output", why);
         }
     }
 }

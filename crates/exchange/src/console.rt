@@ -1,20 +1,23 @@
 // Standard input, cut into lines, each of them answered when it has been read.
 use crate::pair::{Found, Pair};
 use crate::{output, pair, worked};
-use libc::{STDERR_FILENO, STDIN_FILENO};
 use lines::input;
 use lines::input::Input;
+use report::streams::STDERR_FILENO;
+use std::io::{Read, Stdin};
 
 // The next byte, or, where all that were read are used, the next read.
-fn next(i: Input, bytes: &mut [u8; 4096], line: &mut [u8; 128]) -> Input {
+fn next(i: Input, mut from: Stdin, bytes: &mut [u8; 4096], line: &mut [u8; 128]) -> Input {
     if i.at < i.size {
         return input::stepped(i, bytes, line);
     }
-    let got = libc::read(STDIN_FILENO, bytes);
-    if got < 0 {
-        io::write_all(STDERR_FILENO, b"exchange: standard input can't be read\n");
+    match from.read(bytes) {
+        Ok(size) => input::filled(i, size, false),
+        Err(_) => {
+            io::write_all(STDERR_FILENO, b"exchange: standard input can't be read\n");
+            input::filled(i, 0, true)
+        }
     }
-    input::filled(i, io::count(got, bytes), got < 0)
 }
 
 fn judged(p: Pair) -> bool {
@@ -42,14 +45,14 @@ fn answered(line: &[u8; 128], kept: usize) -> bool {
 
 // Whether all is written. The longest pair has 43 bytes, so that what is kept of a line longer than 128 is no pair. Nothing says that the
 // input ends, so the loop counts its turns down, from a number that no run uses up.
-pub(crate) fn run() -> bool {
+pub(crate) fn run(from: Stdin) -> bool {
     let mut bytes = [0u8; 4096];
     let mut line = [0u8; 128];
     let mut i = input::new();
     let mut written = true;
     let mut left = u64::MAX;
     while left > 0 && (i.more & written) {
-        i = next(i, &mut bytes, &mut line);
+        i = next(i, from, &mut bytes, &mut line);
         if i.ended {
             written = answered(&line, i.kept);
             i = input::begun(i);

@@ -7,10 +7,10 @@ mod output;
 mod pair;
 mod worked;
 
-use libc::STDERR_FILENO;
+use report::streams::STDERR_FILENO;
 
-fn main() {
-    if !console::run() {
+fn main(rt: HostRuntime) {
+    if !console::run(rt.stdin()) {
         io::write_all(
             STDERR_FILENO,
             b"exchange: standard output can't be written\n",

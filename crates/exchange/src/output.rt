@@ -3,7 +3,7 @@
 use crate::pair::Pair;
 use crate::worked::Difference;
 use arranger::Lead;
-use libc::STDOUT_FILENO;
+use report::streams::STDOUT_FILENO;
 
 fn labelled(words: &[u8], n: u64) -> bool {
     io::write_all(STDOUT_FILENO, words) & io::print_decimal(STDOUT_FILENO, n)

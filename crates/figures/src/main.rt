@@ -1,9 +1,9 @@
 // Runs document 01's "Run by program" figures and the refusals of the unit's calls, and prints what each gave.
 #![tactic(auto)]
 
-use libc::STDOUT_FILENO;
 use refusal::Answer;
 use report::print;
+use report::streams::STDOUT_FILENO;
 use report::sum::side;
 use voice::channel_enum::Kind;
 use vsu::unit;

@@ -1,7 +1,7 @@
 // The lines.
-use libc::STDOUT_FILENO;
 use refusal::Refusal;
 use register_log::Write;
+use report::streams::STDOUT_FILENO;
 use report::text;
 
 // Of an end past the text's own, which nothing here answers, nothing.

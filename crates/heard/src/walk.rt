@@ -2,9 +2,9 @@
 ghost use Rattle.std.specs.Prelude.{◌<◌, ◌≤◌};
 
 use crate::output;
-use libc::STDOUT_FILENO;
 use register_log::Write;
 use report::progress;
+use report::terminal::Terminals;
 use std::num;
 use vsu::unit;
 use vsu::unit::Said;
@@ -30,11 +30,11 @@ fn piece_of(left: u32) -> u32
 }
 
 // Not where the lines go to a terminal: the two would mix. A log of one piece is done before there is anything to tell.
-fn shown(last: u32, done: u32, all: u32) -> u32 {
-    if (all <= PIECE) | (libc::isatty(STDOUT_FILENO) == 1) {
+fn shown(last: u32, done: u32, all: u32, terminals: Terminals) -> u32 {
+    if (all <= PIECE) | terminals.output {
         return last;
     }
-    progress::show(last, done, all)
+    progress::show(last, done, all, terminals)
 }
 
 // One entry more. The unit's state is in range from power-on on, so that no write is refused.
@@ -58,7 +58,7 @@ fn counted(h: Tally, index: u32, w: Write, said: Said) -> Tally {
 }
 
 // Whether all is written. Behind the last entry there is nothing to hear. Nothing has been told, not even 0: hence the 100.
-pub(crate) fn through(log: &[u8], count: u32, cycles: u32) -> bool {
+pub(crate) fn through(log: &[u8], count: u32, cycles: u32, terminals: Terminals) -> bool {
     let mut h = Tally {
         taken: 0,
         held: 0,
@@ -77,7 +77,7 @@ pub(crate) fn through(log: &[u8], count: u32, cycles: u32) -> bool {
             let m = quick::advance(unit, n);
             unit = m.state;
             cycle += n;
-            told = shown(told, cycle, cycles);
+            told = shown(told, cycle, cycles, terminals);
         } else {
             let m = unit::write(unit, w.address as u32, w.byte);
             let said = m.said;
@@ -89,6 +89,6 @@ pub(crate) fn through(log: &[u8], count: u32, cycles: u32) -> bool {
     if !h.written {
         return false;
     }
-    shown(told, cycles, cycles);
+    shown(told, cycles, cycles, terminals);
     output::totals(h.taken, h.held, h.none)
 }

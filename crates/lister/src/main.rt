@@ -9,10 +9,11 @@ ghost use Rattle.register_log.specs.Log.{entries_in};
 
 use crate::sorts::Sorts;
 use deck::Player;
-use libc::{STDIN_FILENO, STDOUT_FILENO};
 use refusal::Refusal;
 use register_log::{Checked, Read, reader};
-use report::{print, progress, sum, text};
+use report::streams::{STDIN_FILENO, STDOUT_FILENO};
+use report::terminal::Terminals;
+use report::{print, progress, sum, terminal, text};
 
 // A log of any length is listed in plays of at most this many frames, and their cycles.
 const FRAMES: u32 = 1024;
@@ -60,16 +61,16 @@ fn lines(out: &mut [u8], before: u32, sides: &[i16; 2048], made: u32) -> usize {
 }
 
 // Not where the lines go to a terminal: the two would mix. A log of one span is done before there is anything to tell.
-fn shown(last: u32, done: u32, all: u32) -> u32 {
-    if (all <= SPAN) | (libc::isatty(STDOUT_FILENO) == 1) {
+fn shown(last: u32, done: u32, all: u32, terminals: Terminals) -> u32 {
+    if (all <= SPAN) | terminals.output {
         return last;
     }
-    progress::show(last, done, all)
+    progress::show(last, done, all, terminals)
 }
 
 // n of a log's cycles, at most a span and not beyond its end: so the play is never refused. A line has at most 31 bytes, so there is
 // room for a line of each frame. The pass before this one is the first half of what is told to be done.
-fn play(l: Listing, n: u32, log: &[u8], cycles: u32) -> Listing {
+fn play(l: Listing, n: u32, log: &[u8], cycles: u32, terminals: Terminals) -> Listing {
     let mut sides = [0i16; 2048];
     let mut out = [0u8; 32768];
     let p = l.player;
@@ -79,12 +80,12 @@ fn play(l: Listing, n: u32, log: &[u8], cycles: u32) -> Listing {
     Listing {
         player: q,
         written: write_out(&out, at),
-        told: shown(l.told, cycles - cycles / 2 + q.cycle / 2, cycles),
+        told: shown(l.told, cycles - cycles / 2 + q.cycle / 2, cycles, terminals),
     }
 }
 
 // Whether all frames are listed.
-fn frames(log: &[u8], cycles: u32, told: u32) -> bool {
+fn frames(log: &[u8], cycles: u32, told: u32, terminals: Terminals) -> bool {
     let t = player::open(log);
     let p = t.player;
     let mut l = Listing {
@@ -95,13 +96,13 @@ fn frames(log: &[u8], cycles: u32, told: u32) -> bool {
     let spans = cycles / SPAN;
     let mut i = 0;
     while i < spans {
-        l = play(l, SPAN, log, cycles);
+        l = play(l, SPAN, log, cycles, terminals);
         if !l.written {
             return false;
         }
         i += 1;
     }
-    let last = play(l, cycles % SPAN, log, cycles);
+    let last = play(l, cycles % SPAN, log, cycles, terminals);
     last.written
 }
 
@@ -146,31 +147,32 @@ fn entries(log: &[u8], checked: Checked) -> u32
     }
 }
 
-fn accepted(log: &[u8], count: u32, cycles: u32) -> bool {
-    let s = sorts::of_log(log, count, cycles);
-    heading(log, count, cycles, s) && frames(log, cycles, s.told)
+fn accepted(log: &[u8], count: u32, cycles: u32, terminals: Terminals) -> bool {
+    let s = sorts::of_log(log, count, cycles, terminals);
+    heading(log, count, cycles, s) && frames(log, cycles, s.told, terminals)
 }
 
-fn list(log: &[u8]) -> bool {
+fn list(log: &[u8], terminals: Terminals) -> bool {
     let c = register_log::check_log(log);
     match c {
-        Checked::Log { count: _, cycles } => accepted(log, entries(log, c), cycles),
+        Checked::Log { count: _, cycles } => accepted(log, entries(log, c), cycles, terminals),
         Checked::Refused(why) => refused(why),
     }
 }
 
 // The input has room for one byte more than a log may have, so that a longer one shows.
-fn listed() -> bool {
+fn listed(terminals: Terminals) -> bool {
     let mut space = [0u8; 65537];
     let size = io::read_full(STDIN_FILENO, &mut space);
     if size > 65_536 {
         return refused(Refusal::Room);
     }
-    list(&space[..size])
+    list(&space[..size], terminals)
 }
 
-fn main() {
-    if !listed() {
-        print::unwritten(b"lister");
+fn main(rt: HostRuntime) {
+    let terminals = terminal::asked(rt.stdout(), rt.stderr());
+    if !listed(terminals) {
+        print::unwritten(b"lister", terminals);
     }
 }

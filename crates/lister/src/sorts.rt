@@ -1,6 +1,7 @@
 // What became of a log's entries: a pass over the log before it is listed.
 use crate::SPAN;
 use deck::Counts;
+use report::terminal::Terminals;
 use std::num;
 
 // How many entries were held off by playing, how many had no register, and the hundredths that were told last.
@@ -21,16 +22,16 @@ fn part_of(cycle: u32, cycles: u32) -> u32 {
 }
 
 // A play more, by its counts and the cycle that it came to. The listing is still to come, so this is told as half of what is to be done.
-fn more(s: Sorts, c: Counts, cycle: u32, cycles: u32) -> Sorts {
+fn more(s: Sorts, c: Counts, cycle: u32, cycles: u32, terminals: Terminals) -> Sorts {
     Sorts {
         held: num::wrapping_add_u32(s.held, c.held),
         none: num::wrapping_add_u32(s.none, c.none),
-        told: crate::shown(s.told, cycle / 2, cycles),
+        told: crate::shown(s.told, cycle / 2, cycles, terminals),
     }
 }
 
 // Up to the play that applies the last entry. Nothing has been told, not even 0: hence the 100.
-pub(crate) fn of_log(log: &[u8], count: u32, cycles: u32) -> Sorts {
+pub(crate) fn of_log(log: &[u8], count: u32, cycles: u32, terminals: Terminals) -> Sorts {
     let mut sides = [0i16; 2048];
     let t = player::open(log);
     let mut p = t.player;
@@ -45,7 +46,7 @@ pub(crate) fn of_log(log: &[u8], count: u32, cycles: u32) -> Sorts {
         let r = player::play(p, part_of(p.cycle, cycles), log, &mut sides);
         let c = r.counts;
         p = r.player;
-        s = more(s, c, p.cycle, cycles);
+        s = more(s, c, p.cycle, cycles, terminals);
         i += 1;
     }
     s

@@ -1,36 +1,33 @@
 // Standard input, cut into lines, each of them a call of the recorder.
 use crate::call::Call;
 use crate::{call, output};
-use libc::STDIN_FILENO;
 use lines::input;
 use lines::input::Input;
 use recorder::{Recorder, Turn};
 use refusal::Answer;
-
-fn failed(got: isize) -> bool {
-    if got < 0 {
-        output::unread();
-        return true;
-    }
-    false
-}
+use std::io::{Read, Stdin};
 
 // The next byte, or, where all that were read are used, the next read.
-fn next(i: Input, bytes: &mut [u8; 4096], line: &mut [u8; 37]) -> Input {
+fn next(i: Input, mut from: Stdin, bytes: &mut [u8; 4096], line: &mut [u8; 37]) -> Input {
     if i.at < i.size {
         return input::stepped(i, bytes, line);
     }
-    let got = libc::read(STDIN_FILENO, bytes);
-    input::filled(i, io::count(got, bytes), failed(got))
+    match from.read(bytes) {
+        Ok(size) => input::filled(i, size, false),
+        Err(_) => {
+            output::unread();
+            input::filled(i, 0, true)
+        }
+    }
 }
 
 // The next line, of which the front is kept. Nothing says that it ends, so the loop counts its turns down, from a number that no line
 // uses up.
-fn next_line(i: Input, bytes: &mut [u8; 4096], line: &mut [u8; 37]) -> Input {
+fn next_line(i: Input, from: Stdin, bytes: &mut [u8; 4096], line: &mut [u8; 37]) -> Input {
     let mut t = input::begun(i);
     let mut left = u64::MAX;
     while left > 0 && (t.more & !t.ended) {
-        t = next(t, bytes, line);
+        t = next(t, from, bytes, line);
         left -= 1;
     }
     t
@@ -93,7 +90,7 @@ fn ended(finished: bool, r: Recorder, buffer: &[u8]) {
 }
 
 // Up to the first accepted finish. Nothing says that the input ends; no run has as many lines as are counted here.
-pub(crate) fn run(buffer: &mut [u8]) {
+pub(crate) fn run(from: Stdin, buffer: &mut [u8]) {
     let mut bytes = [0u8; 4096];
     let mut line = [0u8; 37];
     let mut r = started(buffer);
@@ -102,7 +99,7 @@ pub(crate) fn run(buffer: &mut [u8]) {
     let mut k: u64 = 0;
     while k < u64::MAX && (i.more & !finished) {
         k += 1;
-        i = next_line(i, &mut bytes, &mut line);
+        i = next_line(i, from, &mut bytes, &mut line);
         let call = call_in(&line, i);
         let t = turned(r, call, buffer);
         r = t.recorder;

@@ -6,7 +6,7 @@ mod console;
 mod output;
 
 // Room for 131,070 entries.
-fn main() {
+fn main(rt: HostRuntime) {
     let mut buffer = [0u8; 1048576];
-    console::run(&mut buffer);
+    console::run(rt.stdin(), &mut buffer);
 }

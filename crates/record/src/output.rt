@@ -1,6 +1,6 @@
 // What is said of a line, on standard error, and the log on standard output.
-use libc::{STDERR_FILENO, STDOUT_FILENO};
 use refusal::Refusal;
+use report::streams::{STDERR_FILENO, STDOUT_FILENO};
 use report::text;
 
 // Of more bytes than there are, which nothing here asks for, none.

@@ -10,9 +10,9 @@ mod trial;
 use crate::damage::{Damage, Given};
 use crate::trial::{Call, Seen};
 use deck::MEMORY_SIZE;
-use libc::STDOUT_FILENO;
 use little::Width;
 use report::print;
+use report::streams::STDOUT_FILENO;
 
 fn text(t: &[u8]) {
     io::write_all(STDOUT_FILENO, t);

@@ -2,9 +2,9 @@
 // or what differs first.
 #![tactic(auto)]
 
-use libc::{STDIN_FILENO, STDOUT_FILENO};
 use refusal::Refusal;
 use register_log::{Checked, Counted, Read, Write};
+use report::streams::{STDIN_FILENO, STDOUT_FILENO};
 
 // Where a replay stands: the bytes of the present log, what was counted, the present op's number from 0, and whether to go on.
 #[derive(Clone, Copy)]

@@ -2,9 +2,9 @@
 use crate::tally;
 use crate::tally::Tally;
 use image::{read_image, write_image};
-use libc::STDIN_FILENO;
 use little::Width;
 use refusal::Answer;
+use report::streams::STDIN_FILENO;
 use report::sum::of_bytes;
 use vsu::unit;
 use vsu::unit::Vsu;

@@ -6,8 +6,8 @@ mod images;
 mod tally;
 
 use crate::tally::Tally;
-use libc::STDIN_FILENO;
 use refusal::Answer;
+use report::streams::STDIN_FILENO;
 use report::sum::of_frames;
 use vsu::unit;
 use vsu::unit::{Moved, Ran, Vsu};

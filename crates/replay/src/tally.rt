@@ -1,7 +1,7 @@
 // What a replay has counted, and the line that ends it.
-use libc::STDOUT_FILENO;
 use refusal::Answer;
 use report::print;
+use report::streams::STDOUT_FILENO;
 
 // The cases, the checks and the cycles so far, the present op's number from 0 (as `oracle explain` counts), and whether to go on.
 #[derive(Clone, Copy)]

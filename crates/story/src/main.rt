@@ -7,10 +7,10 @@
 mod song;
 
 use deck::{IMAGE_PLACE, MEMORY_SIZE, Player};
-use libc::STDOUT_FILENO;
 use little::Width;
 use player::{go_to, mute, open, play, seek, set_free};
 use refusal::Answer;
+use report::streams::STDOUT_FILENO;
 use report::sum::of_frames;
 use voice::channel_enum::Kind;
 use vsu::unit;

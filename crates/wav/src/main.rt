@@ -7,11 +7,12 @@ mod riff;
 ghost use Rattle.std.specs.Prelude.{◌≤◌, length};
 
 use deck::Player;
-use libc::{STDERR_FILENO, STDIN_FILENO, STDOUT_FILENO};
 use lines::words::{Number, behind};
 use refusal::Refusal;
 use register_log::Checked;
-use report::{print, progress, text};
+use report::streams::{STDERR_FILENO, STDIN_FILENO, STDOUT_FILENO};
+use report::terminal::Terminals;
+use report::{print, progress, terminal, text};
 
 // A log of any length is played in plays of at most 1,024 frames: their cycles.
 const SPAN: u32 = 480 * 1024;
@@ -38,7 +39,7 @@ fn front(fd: i32, bytes: &[u8], size: usize) -> bool {
 }
 
 // n cycles, at most a span and not beyond L: so the play is never refused.
-fn play(s: Playing, n: u32, log: &[u8], cycles: u32) -> Playing {
+fn play(s: Playing, n: u32, log: &[u8], cycles: u32, terminals: Terminals) -> Playing {
     let mut sides = [0i16; 2048];
     let mut bytes = [0u8; 4096];
     let p = s.player;
@@ -49,7 +50,7 @@ fn play(s: Playing, n: u32, log: &[u8], cycles: u32) -> Playing {
     Playing {
         player: q,
         written: written,
-        told: progress::show(s.told, q.cycle, cycles),
+        told: progress::show(s.told, q.cycle, cycles, terminals),
     }
 }
 
@@ -62,7 +63,7 @@ fn begun(log: &[u8], mutes: u32) -> Player {
 }
 
 // Whether all frames are written. A log of one span is done before there is anything to tell: hence the 100 at first.
-fn frames(log: &[u8], cycles: u32, mutes: u32) -> bool {
+fn frames(log: &[u8], cycles: u32, mutes: u32, terminals: Terminals) -> bool {
     let p = begun(log, mutes);
     let mut s = Playing {
         player: p,
@@ -72,20 +73,20 @@ fn frames(log: &[u8], cycles: u32, mutes: u32) -> bool {
     let spans = cycles / SPAN;
     let mut i = 0;
     while i < spans {
-        s = play(s, SPAN, log, cycles);
+        s = play(s, SPAN, log, cycles, terminals);
         if !s.written {
             return false;
         }
         i += 1;
     }
-    let last = play(s, cycles % SPAN, log, cycles);
+    let last = play(s, cycles % SPAN, log, cycles, terminals);
     last.written
 }
 
-fn sound(log: &[u8], cycles: u32, mutes: u32) -> bool {
+fn sound(log: &[u8], cycles: u32, mutes: u32, terminals: Terminals) -> bool {
     let mut header = [0u8; 44];
     riff::header(&mut header, cycles);
-    io::write_all(STDOUT_FILENO, &header) && frames(log, cycles, mutes)
+    io::write_all(STDOUT_FILENO, &header) && frames(log, cycles, mutes, terminals)
 }
 
 fn refused(why: Refusal) {
@@ -95,25 +96,25 @@ fn refused(why: Refusal) {
     front(STDERR_FILENO, &line, b);
 }
 
-fn convert(log: &[u8], mutes: u32) {
+fn convert(log: &[u8], mutes: u32, terminals: Terminals) {
     let c = register_log::check_log(log);
     match c {
         Checked::Log { count: _, cycles } => {
-            if !sound(log, cycles, mutes) {
-                print::unwritten(b"wav");
+            if !sound(log, cycles, mutes, terminals) {
+                print::unwritten(b"wav", terminals);
             }
         }
         Checked::Refused(why) => refused(why),
     }
 }
 
-fn limited(log: &[u8], mutes: u32) {
+fn limited(log: &[u8], mutes: u32, terminals: Terminals) {
     if mutes > 63 {
         refused(Refusal::State);
     } else if log.len() > MOST {
         refused(Refusal::Room);
     } else {
-        convert(log, mutes);
+        convert(log, mutes, terminals);
     }
 }
 
@@ -132,23 +133,24 @@ fn line_end(input: &[u8]) -> usize
 }
 
 // Any other first line is the log's own.
-fn split(input: &[u8]) {
+fn split(input: &[u8], terminals: Terminals) {
     let end = line_end(input);
     let bits = behind(&input[..end], b"mute ");
     if let Number::Value(mutes) = bits {
         if end < input.len() {
             if input[end] == b'\n' {
-                limited(&input[end + 1..], mutes);
+                limited(&input[end + 1..], mutes, terminals);
                 return;
             }
         }
     }
-    limited(input, 0);
+    limited(input, 0, terminals);
 }
 
 // The input has room for one byte more than a line and a log may have, so that a longer one shows.
-fn main() {
+fn main(rt: HostRuntime) {
+    let terminals = terminal::asked(rt.stdout(), rt.stderr());
     let mut space = [0u8; 1048593];
     let size = io::read_full(STDIN_FILENO, &mut space);
-    split(&space[..size]);
+    split(&space[..size], terminals);
 }
