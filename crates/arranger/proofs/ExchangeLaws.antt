@@ -1,13 +1,13 @@
 -- Where the table says yes, either order gives one state; every state in range has its channels of their kinds.
-use Rattle.std.specs.Prelude.{◌≡◌, ℕ, ◌-◌, ◌/◌, ◌%◌, ◌<◌, ◌≤◌, Bool, true, false, cond, not, ◌&&◌, ◌||◌, eqb, ltb, leb, ◌≢◌, List, [], ◌∷◌, map, length, get_or, set}
-use mathlib.Core.Path.{refl, sym, ap, subst, ◌∙◌}
+use Rattle.std.specs.Prelude.{◌≡◌, ℕ, ◌%◌, ◌<◌, ◌≤◌, Bool, true, false, cond, not, ◌&&◌, ◌||◌, eqb, ltb, leb, List, [], ◌∷◌, map, set}
+use mathlib.Core.Path.{refl, sym, ap, ◌∙◌}
 use mathlib.Core.Bool.{and-eq-true_iff, and-true, true≢false}
 use native.Mathlib.Decide.{ℕ_discrete}
 use native.Mathlib.Omega.{arith}
-use borrow.Author.Tests.{eq-eqb, eqb-false, eqb-true, leb-true, ne_eqb}
+use borrow.Author.Tests.{eq-eqb, eqb-false, eqb-true, leb-true}
 use borrow.Enum.Match.{each_below}
 use lib.Seq.{get_or-set_other}
-use Rattle.common.specs.Bits.{bit, bits, signed}
+use Rattle.common.specs.Bits.{bit, signed}
 use Rattle.common.specs.Channel.{channel_in_range}
 use Rattle.laws.proofs.Cases.{both, each, ways}
 use Rattle.six.specs.Core.{any_plays, off_wave, plays, voice_at}
@@ -16,7 +16,7 @@ use Rattle.voice.specs.declared.channel_enum.Kind.{Kind}
 use Rattle.voice.specs.declared.channel_enum.Kind.TheVariants as Kinds
 use Rattle.voice.specs.declared.channel_enum.Voice.{Voice}
 use Rattle.vsu.proofs.CoreLaws.{unit-refused, write-gives}
-use Rattle.vsu.proofs.RangeLaws.{InRange, Six, range-facts, write_keeps}
+use Rattle.vsu.proofs.RangeLaws.{Six, range-facts, write_keeps}
 use Rattle.vsu.specs.Core.{between, decode_of, in_range, with_voices, write, write_of, write_to, written_by}
 use Rattle.vsu.specs.declared.unit.Written.{Written}
 use Rattle.vsu.specs.declared.unit.Register.{Register}

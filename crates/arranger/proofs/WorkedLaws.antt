@@ -14,13 +14,13 @@ use Rattle.table.proofs.TableLaws as table
 use Rattle.table.proofs.TableLaws.{below}
 use Rattle.voice.specs.ChannelEnum.{stop_voice, voice_write}
 use Rattle.voice.specs.declared.channel_enum.Voice.{Voice}
-use Rattle.vsu.proofs.RangeLaws.{InRange, power-on-in-range, range-facts, write_keeps}
+use Rattle.vsu.proofs.RangeLaws.{power-on-in-range, range-facts, write_keeps}
 use Rattle.vsu.specs.Core.{between, decode_of, in_range, power_on, with_modulation, with_voices, with_waves, write, write_to}
 use Rattle.vsu.specs.declared.unit.Register.{Register}
 use Rattle.vsu.specs.declared.unit.Register.TheVariants.{Wave, Modulation, Channel, Stop, Nothing}
 use Rattle.vsu.specs.declared.unit.Vsu.{Vsu}
 use Rattle.arranger.proofs.VoiceLaws.{later-stays, on-bytes, plays-written, read, reads-back}
-use Rattle.arranger.proofs.WriteLaws.{EitherOrder, entries-agree, plays-set, plays-there, stopped-at, stopped-plays, voice-twice, voices-agree, voices_by, waves-agree}
+use Rattle.arranger.proofs.WriteLaws.{EitherOrder, entries-agree, plays-set, plays-there, stopped-plays, voice-twice, voices-agree, voices_by, waves-agree}
 use Rattle.arranger.proofs.ExchangeLaws.{Fits, at_most, decode-fits, in-range-kinds, may-exchange}
 use Rattle.arranger.specs.Arranger.{Exchanged, beside, beside_channel, beside_modulation, beside_stop, beside_wave, dropped, kept, lead_of, lead_to, led, may_exchange, worked}
 use Rattle.arranger.specs.declared.Lead.{Lead}

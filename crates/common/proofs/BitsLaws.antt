@@ -1,11 +1,10 @@
 -- Laws of specs/Bits.antt: masks and shifts once over the width, and the two turns between bytes and signed numbers.
-use Prim.Native.Nat.{ℕ, suc, ◌+◌, ◌-◌, ◌*◌, ◌/◌, ◌%◌, ◌^◌, ◌<◌, ◌≤◌}
+use Prim.Native.Nat.{ℕ, suc, ◌-◌, ◌*◌, ◌/◌, ◌%◌, ◌^◌, ◌<◌, ◌≤◌}
 use mathlib.Core.Path.{◌≡◌, refl, sym, ◌∙◌, ap}
 use native.Mathlib.Nat.{one-mul, mod-eq_of_lt, zero-mod, div-eq_of_lt, div-le_self, lt_of_lt_of_le, lt_of_le_of_lt}
 use native.Mathlib.Omega.{arith}
 use borrow.Author.Tests.{lt-ltb, le-ltb}
 use lib.Bits.{bit_and, and_mask}
-use lib.Dec.{ltb, lit<}
 use lib.Pow.{pow_pos, pow-lt, pow_mono}
 use lib.IntN.{ℤ, pos, negsuc, ◌+ℤ◌, ◌-ℤ◌}
 use mir.Syntax.{w8, w16}

@@ -1,5 +1,5 @@
 -- The state image, in the words of documents 01 and 02: 420 bytes, little-endian.
-use Rattle.std.specs.Prelude.{ℕ, zero, suc, ◌+◌, cond, not, List, [], ◌∷◌, ◌++◌, length, drop, ◌==◌, nat_lt, slice_index}
+use Rattle.std.specs.Prelude.{ℕ, zero, suc, cond, not, List, [], ◌∷◌, ◌++◌, length, drop, ◌==◌, nat_lt, slice_index}
 use Rattle.little.specs.Little.{bytes, number, size_of}
 use Rattle.refusal.specs.Refusal.{fault, ◌then◌}
 use Rattle.refusal.specs.declared.Answer.{Answer}

@@ -7,7 +7,6 @@ use Rattle.register_log.specs.Log.{check_of, checked_by, count_of, due_at, due_b
 use Rattle.register_log.specs.declared.Checked.{Checked}
 use Rattle.register_log.specs.declared.Checked.TheVariants as checked
 use Rattle.marks.specs.Marks.{is_set}
-use Rattle.refusal.specs.declared.Answer.{Answer}
 use Rattle.refusal.specs.declared.Answer.TheVariants.{Accepted}
 use Rattle.vsu.specs.Core.{in_range}
 use Rattle.vsu.specs.declared.unit.Said.{Said}

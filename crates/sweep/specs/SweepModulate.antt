@@ -1,5 +1,5 @@
 -- Channel 5's sweep and modulation, in document 01's words.
-use Rattle.std.specs.Prelude.{ℕ, ◌+◌, ◌-◌, ◌/◌, ◌%◌, ◌^◌, Bool, true, false, cond, not, ◌&&◌, List, eqb, leb, ltb, get_or, ℤ, pos}
+use Rattle.std.specs.Prelude.{ℕ, ◌+◌, ◌-◌, ◌/◌, ◌%◌, ◌^◌, Bool, false, cond, not, ◌&&◌, List, eqb, leb, ltb, get_or, ℤ, pos}
 use Rattle.common.specs.Bits.{bits, bit, with_low, with_high, addend}
 use Rattle.common.specs.Channel.{play_off}
 use Rattle.sweep.specs.Constants.{sweep_slow, sweep_fast}

@@ -1,5 +1,5 @@
 -- A voice: a common record and its kind, in document 01's words.
-use Rattle.std.specs.Prelude.{ℕ, ◌+◌, ◌*◌, ◌/◌, ◌%◌, ◌^◌, Bool, true, false, cond, ◌&&◌, ◌||◌, List, [], ◌∷◌, eqb, leb, get_or, ℤ}
+use Rattle.std.specs.Prelude.{ℕ, ◌+◌, ◌*◌, ◌/◌, ◌%◌, ◌^◌, Bool, false, cond, ◌&&◌, ◌||◌, List, [], ◌∷◌, eqb, leb, get_or, ℤ}
 use Rattle.std.specs.Bool.{beq}
 use Rattle.common.specs.Bits.{bits}
 use Rattle.common.specs.Channel.{play_off, with_live, with_pitch, with_envelope, channel_write, live_step, pitch_step, envelope_step, side, channel_in_range}

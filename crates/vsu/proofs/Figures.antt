@@ -1,6 +1,6 @@
 -- Document 01, "Figures to prove as one table": each row is what the definitions compute beside what 01 says, and one theorem says that
 -- the two are equal in every row.
-use Rattle.std.specs.Prelude.{◌≡◌, ℕ, zero, suc, Bool, true, false, cond, not, ◌&&◌, List, [], ◌∷◌, ◌++◌, map, replicate, ℤ, pos}
+use Rattle.std.specs.Prelude.{◌≡◌, ℕ, zero, suc, Bool, true, false, cond, List, [], ◌∷◌, ◌++◌, map, replicate, ℤ, pos}
 use mathlib.Core.Path.{refl}
 use Rattle.common.specs.Bits.{addend, signed}
 use Rattle.common.specs.Channel.{amplitude_of, side}

@@ -1,5 +1,5 @@
 -- The sound unit, in document 01's order and words: register writes, one cycle, the frame, runs, range rules, refusals.
-use Rattle.std.specs.Prelude.{ℕ, zero, suc, ◌+◌, ◌-◌, ◌*◌, ◌/◌, ◌%◌, ◌≤◌, Bool, true, cond, not, ◌&&◌, List, [], ◌∷◌, ◌++◌, map, length, drop, set, replicate, ℤ, pos, ◌==◌, nat_le, nat_lt, slice_set}
+use Rattle.std.specs.Prelude.{ℕ, zero, suc, ◌+◌, ◌-◌, ◌*◌, ◌/◌, ◌%◌, ◌≤◌, Bool, true, cond, not, ◌&&◌, List, [], ◌∷◌, ◌++◌, map, length, drop, replicate, ℤ, pos, ◌==◌, nat_le, nat_lt, slice_set}
 use Rattle.std.specs.Int.Signed.{mag}
 use Rattle.refusal.specs.Refusal.{fault, ◌then◌}
 use Rattle.refusal.specs.declared.Answer.{Answer}

@@ -1,4 +1,3 @@
-use borrow.Author.Rules.{rules}
 use Rattle.arranger.specs.Arranger.{beside_channel}
 use Rattle.arranger.proofs.beside_channel.Goals as goal
 

@@ -1,4 +1,3 @@
-use borrow.Author.Rules.{rules}
 use Rattle.arranger.specs.Arranger.{beside_modulation}
 use Rattle.arranger.proofs.beside_modulation.Goals as goal
 

@@ -1,4 +1,3 @@
-use borrow.Author.Rules.{rules}
 use Rattle.arranger.specs.Arranger.{beside_stop}
 use Rattle.arranger.proofs.beside_stop.Goals as goal
 

@@ -1,4 +1,3 @@
-use borrow.Author.Rules.{rules}
 use Rattle.arranger.specs.Arranger.{beside_wave}
 use Rattle.arranger.proofs.beside_wave.Goals as goal
 

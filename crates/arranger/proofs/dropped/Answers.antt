@@ -1,4 +1,3 @@
-use borrow.Author.Rules.{rules}
 use Rattle.arranger.specs.Arranger.{dropped}
 use Rattle.arranger.proofs.dropped.Goals as goal
 

@@ -1,4 +1,3 @@
-use borrow.Author.Rules.{rules}
 use Rattle.arranger.proofs.ArrangerLaws as laws
 use borrow.Author.Tests.{lt-ltb, le-ltb, eq-eqb, ne_eqb}
 use Rattle.arranger.specs.Arranger.{kept}

@@ -1,4 +1,3 @@
-use borrow.Author.Rules.{rules}
 use borrow.Author.Tests.{ne_eqb}
 use Rattle.arranger.specs.Arranger.{lead_to}
 use Rattle.arranger.proofs.lead_to.Goals as goal

@@ -1,4 +1,3 @@
-use borrow.Author.Rules.{rules}
 use Rattle.arranger.specs.Arranger.{beside}
 use mathlib.Core.Path.{refl}
 use Rattle.arranger.proofs.may_exchange.Goals as goal

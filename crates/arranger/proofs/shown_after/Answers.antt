@@ -1,4 +1,3 @@
-use borrow.Author.Rules.{rules}
 use Rattle.arranger.proofs.ArrangerLaws as laws
 use Rattle.arranger.proofs.shown_after.Goals as goal
 

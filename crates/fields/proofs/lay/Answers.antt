@@ -1,6 +1,4 @@
-use Rattle.std.specs.Prelude.{◌≡◌, ◌-◌, ◌≤◌, length, take}
 use mathlib.Core.Path.{refl}
-use lib.Seq.{sets}
 use Rattle.little.proofs.LittleLaws as little
 use borrow.Author.Rules.{rules}
 use Rattle.fields.proofs.lay.Goals as goal

@@ -1,8 +1,5 @@
 use Rattle.std.specs.Prelude.{◌≡◌, ◌-◌, ◌≤◌, length, take}
-use mathlib.Core.Path.{refl}
 use lib.Seq.{sets}
-use Rattle.little.proofs.LittleLaws as little
-use borrow.Author.Rules.{rules}
 use Rattle.fields.proofs.lay.Given as goal
 
 abbrev pub invariant-loop-i : goal.invariant-loop-i

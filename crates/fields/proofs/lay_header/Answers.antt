@@ -1,7 +1,5 @@
-use Rattle.std.specs.Prelude.{◌≡◌, ◌-◌, ◌≤◌, take}
 use mathlib.Core.Path.{refl}
 use native.Mathlib.Omega.{arith}
-use lib.Seq.{sets}
 use Rattle.little.proofs.LittleLaws as little
 use Rattle.table.specs.Table.{newest}
 use Rattle.fields.specs.Fields.{header_fields}

@@ -1,12 +1,7 @@
 use Rattle.std.specs.Prelude.{◌≡◌, ◌-◌, ◌≤◌, take}
-use mathlib.Core.Path.{refl}
-use native.Mathlib.Omega.{arith}
 use lib.Seq.{sets}
-use Rattle.little.proofs.LittleLaws as little
 use Rattle.table.specs.Table.{newest}
 use Rattle.fields.specs.Fields.{header_fields}
-use Rattle.fields.proofs.FieldsLaws as laws
-use borrow.Author.Rules.{rules}
 use Rattle.fields.proofs.lay_header.Given as goal
 
 abbrev pub invariant-loop-i : goal.invariant-loop-i

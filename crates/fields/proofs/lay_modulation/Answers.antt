@@ -1,8 +1,7 @@
-use Rattle.std.specs.Prelude.{◌≡◌, ◌-◌, ◌≤◌, map, length, take, pos}
+use Rattle.std.specs.Prelude.{◌≡◌, map, length, pos}
 use mathlib.Core.Path.{refl}
 use native.Mathlib.Omega.{arith}
 use lib.ListN.{length-map}
-use lib.Seq.{sets}
 use Rattle.little.proofs.LittleLaws as little
 use Rattle.fields.specs.Fields.{byte_of}
 use Rattle.fields.proofs.FieldsLaws as laws

@@ -1,12 +1,6 @@
-use Rattle.std.specs.Prelude.{◌≡◌, ◌-◌, ◌≤◌, map, length, take, pos}
-use mathlib.Core.Path.{refl}
-use native.Mathlib.Omega.{arith}
-use lib.ListN.{length-map}
+use Rattle.std.specs.Prelude.{◌≡◌, ◌-◌, ◌≤◌, map, take}
 use lib.Seq.{sets}
-use Rattle.little.proofs.LittleLaws as little
 use Rattle.fields.specs.Fields.{byte_of}
-use Rattle.fields.proofs.FieldsLaws as laws
-use borrow.Author.Rules.{rules}
 use Rattle.fields.proofs.lay_modulation.Given as goal
 
 abbrev pub invariant-loop-i : goal.invariant-loop-i

@@ -1,7 +1,6 @@
-use Rattle.std.specs.Prelude.{◌≡◌, ◌-◌, ◌≤◌, length, take}
+use Rattle.std.specs.Prelude.{◌≡◌, length}
 use mathlib.Core.Path.{refl}
 use native.Mathlib.Omega.{arith}
-use lib.Seq.{sets}
 use Rattle.fields.specs.Fields.{blocks_of}
 use Rattle.fields.proofs.FieldsLaws as laws
 use borrow.Author.Rules.{rules}

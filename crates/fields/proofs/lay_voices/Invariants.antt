@@ -1,10 +1,6 @@
-use Rattle.std.specs.Prelude.{◌≡◌, ◌-◌, ◌≤◌, length, take}
-use mathlib.Core.Path.{refl}
-use native.Mathlib.Omega.{arith}
+use Rattle.std.specs.Prelude.{◌≡◌, ◌-◌, ◌≤◌, take}
 use lib.Seq.{sets}
 use Rattle.fields.specs.Fields.{blocks_of}
-use Rattle.fields.proofs.FieldsLaws as laws
-use borrow.Author.Rules.{rules}
 use Rattle.fields.proofs.lay_voices.Given as goal
 
 abbrev pub invariant-loop-i : goal.invariant-loop-i

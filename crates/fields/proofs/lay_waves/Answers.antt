@@ -1,7 +1,6 @@
-use Rattle.std.specs.Prelude.{◌≡◌, ◌-◌, ◌≤◌, length, take}
+use Rattle.std.specs.Prelude.{◌≡◌, length}
 use mathlib.Core.Path.{refl}
 use native.Mathlib.Omega.{arith}
-use lib.Seq.{sets}
 use Rattle.little.proofs.LittleLaws as little
 use borrow.Author.Rules.{rules}
 use Rattle.fields.proofs.lay_waves.Goals as goal

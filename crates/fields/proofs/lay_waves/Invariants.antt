@@ -1,9 +1,5 @@
-use Rattle.std.specs.Prelude.{◌≡◌, ◌-◌, ◌≤◌, length, take}
-use mathlib.Core.Path.{refl}
-use native.Mathlib.Omega.{arith}
+use Rattle.std.specs.Prelude.{◌≡◌, ◌-◌, ◌≤◌, take}
 use lib.Seq.{sets}
-use Rattle.little.proofs.LittleLaws as little
-use borrow.Author.Rules.{rules}
 use Rattle.fields.proofs.lay_waves.Given as goal
 
 abbrev pub invariant-loop-i : goal.invariant-loop-i

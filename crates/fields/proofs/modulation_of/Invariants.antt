@@ -1,11 +1,6 @@
 use Rattle.std.specs.Prelude.{◌≡◌, ◌-◌, ◌≤◌, map, length, take, drop}
-use mathlib.Core.Path.{refl}
-use native.Mathlib.Omega.{arith}
-use Rattle.little.proofs.LittleLaws as little
-use Rattle.table.specs.Table.{modulation_from, newest}
+use Rattle.table.specs.Table.{modulation_from}
 use Rattle.fields.specs.Fields.{entry_by}
-use Rattle.fields.proofs.FieldsLaws as laws
-use borrow.Author.Rules.{rules}
 use Rattle.fields.proofs.modulation_of.Given as goal
 
 abbrev pub invariant-loop-i : goal.invariant-loop-i

@@ -1,5 +1,4 @@
 use Rattle.fields.specs.Fields.{shift_of}
-use borrow.Author.Rules.{rules}
 use Rattle.fields.proofs.shift_of.Goals as goal
 
 pub returns-in-Wave : goal.returns-in-Wave

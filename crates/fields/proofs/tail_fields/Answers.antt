@@ -1,6 +1,5 @@
 use Rattle.fields.specs.Fields.{tail_fields}
 use Rattle.fields.proofs.FieldsLaws as laws
-use borrow.Author.Rules.{rules}
 use Rattle.fields.proofs.tail_fields.Goals as goal
 
 pub returns-in-Wave : goal.returns-in-Wave

@@ -1,5 +1,4 @@
 use Rattle.fields.specs.Fields.{tenth_of}
-use borrow.Author.Rules.{rules}
 use Rattle.fields.proofs.tenth.Goals as goal
 
 pub returns-in-Wave : goal.returns-in-Wave

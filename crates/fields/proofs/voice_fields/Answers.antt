@@ -1,6 +1,5 @@
 use mathlib.Core.Path.{◌∙◌}
 use Rattle.fields.proofs.FieldsLaws as laws
-use borrow.Author.Rules.{rules}
 use Rattle.fields.proofs.voice_fields.Goals as goal
 
 pub returns : goal.returns

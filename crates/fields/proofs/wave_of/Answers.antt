@@ -1,5 +1,4 @@
 use Rattle.fields.proofs.FieldsLaws as laws
-use borrow.Author.Rules.{rules}
 use Rattle.fields.proofs.wave_of.Goals as goal
 
 pub returns : goal.returns

@@ -1,4 +1,4 @@
-use Rattle.std.specs.Prelude.{◌≡◌, ◌-◌, ◌≤◌, map, length, take, drop}
+use Rattle.std.specs.Prelude.{◌≡◌, map, length, take, drop}
 use mathlib.Core.Path.{refl}
 use native.Mathlib.Omega.{arith}
 use Rattle.little.proofs.LittleLaws as little

@@ -1,11 +1,6 @@
 use Rattle.std.specs.Prelude.{◌≡◌, ◌-◌, ◌≤◌, map, length, take, drop}
-use mathlib.Core.Path.{refl}
-use native.Mathlib.Omega.{arith}
-use Rattle.little.proofs.LittleLaws as little
-use Rattle.table.specs.Table.{newest, waves_from}
+use Rattle.table.specs.Table.{waves_from}
 use Rattle.fields.specs.Fields.{byte}
-use Rattle.fields.proofs.FieldsLaws as laws
-use borrow.Author.Rules.{rules}
 use Rattle.fields.proofs.waves_of.Given as goal
 
 abbrev pub invariant-loop-i : goal.invariant-loop-i

@@ -1,9 +1,7 @@
-use Rattle.std.specs.Prelude.{◌≡◌, ◌-◌, ◌≤◌}
 use mathlib.Core.Path.{refl, sym, ap, ◌∙◌}
 use native.Mathlib.Omega.{arith}
 use Rattle.refusal.specs.declared.Answer.TheVariants.{Refused}
-use Rattle.image.specs.Image.{fields_answer}
-use Rattle.table.specs.Table.{field_count, known_edition}
+use Rattle.table.specs.Table.{known_edition}
 use Rattle.table.proofs.TableLaws.{fields-most}
 use Rattle.image.proofs.ImageLaws as laws
 use borrow.Author.Rules.{rules}

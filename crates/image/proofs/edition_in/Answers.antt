@@ -1,5 +1,4 @@
 use borrow.Author.Tests.{ne_eqb}
-use borrow.Author.Rules.{rules}
 use Rattle.image.specs.Image.{known_in}
 use Rattle.image.proofs.edition_in.Goals as goal
 

@@ -1,7 +1,7 @@
-use Rattle.std.specs.Prelude.{◌≡◌, ◌-◌, ◌≤◌, length}
+use Rattle.std.specs.Prelude.{◌≡◌, length}
 use mathlib.Core.Path.{refl, ap, ◌∙◌}
 use native.Mathlib.Omega.{arith}
-use lib.Seq.{length-sets, sets}
+use lib.Seq.{length-sets}
 use Rattle.image.specs.Image.{bytes_of}
 use Rattle.table.specs.Table.{newest}
 use Rattle.table.proofs.TableLaws.{newest-laid}

@@ -1,12 +1,7 @@
-use Rattle.std.specs.Prelude.{◌≡◌, ◌-◌, ◌≤◌, length}
-use mathlib.Core.Path.{refl, ap, ◌∙◌}
-use native.Mathlib.Omega.{arith}
-use lib.Seq.{length-sets, sets}
+use Rattle.std.specs.Prelude.{◌≡◌, ◌-◌, ◌≤◌}
+use lib.Seq.{sets}
 use Rattle.image.specs.Image.{bytes_of}
 use Rattle.table.specs.Table.{newest}
-use Rattle.table.proofs.TableLaws.{newest-laid}
-use Rattle.image.proofs.ImageLaws as laws
-use borrow.Author.Rules.{rules}
 use Rattle.image.proofs.put_fields.Given as goal
 
 abbrev pub invariant-loop-i : goal.invariant-loop-i

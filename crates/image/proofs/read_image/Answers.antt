@@ -1,5 +1,4 @@
 use Rattle.image.proofs.CallLaws as laws
-use borrow.Author.Rules.{rules}
 use Rattle.image.proofs.read_image.Goals as goal
 
 pub returns-then-b-ne-SIZE : goal.returns-then-b-ne-SIZE

@@ -1,4 +1,3 @@
-use borrow.Author.Rules.{rules}
 use Rattle.image.specs.Image.{loaded_by}
 use Rattle.image.proofs.refused.Goals as goal
 

@@ -1,12 +1,7 @@
 use Rattle.std.specs.Prelude.{◌≡◌, ◌-◌, ◌≤◌}
-use mathlib.Core.Path.{refl}
-use native.Mathlib.Omega.{arith}
 use lib.Seq.{sets}
 use Rattle.image.specs.Image.{values_of}
 use Rattle.table.specs.Table.{field_count, known_edition}
-use Rattle.table.proofs.TableLaws.{fields-most}
-use Rattle.image.proofs.ImageLaws as laws
-use borrow.Author.Rules.{rules}
 use Rattle.image.proofs.take_fields.Given as goal
 
 abbrev pub invariant-loop-i : goal.invariant-loop-i

@@ -1,7 +1,5 @@
 use mathlib.Core.Path.{sym, ◌∙◌}
-use borrow.Author.Tests.{not-false, not-true}
 use Rattle.image.proofs.CallLaws as laws
-use borrow.Author.Rules.{rules}
 use Rattle.image.proofs.write_image.Goals as goal
 
 pub returns-then-not-in_range : goal.returns-then-not-in_range

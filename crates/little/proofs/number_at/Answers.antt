@@ -1,13 +1,5 @@
 use Rattle.little.proofs.LittleLaws as laws
-use mathlib.Core.Path.{◌∙◌, sym, ap}
-use borrow.Author.Rules.{rules}
-use Rattle.little.proofs.number_at.Reads as reads
-use Rattle.little.proofs.number_at.Lts as lts
-use Rattle.little.proofs.byte_at.Reads as byte-at-reads
-use Rattle.little.proofs.u16_at.Reads as u16-at-reads
-use Rattle.little.proofs.u32_at.Reads as u32-at-reads
-use Rattle.little.proofs.wide.Reads as wide-reads
-use Rattle.little.proofs.wide32.Reads as wide32-reads
+use mathlib.Core.Path.{◌∙◌, sym}
 use Rattle.little.proofs.number_at.Goals as goal
 
 pub returns-in-U8 : goal.returns-in-U8

@@ -1,12 +1,4 @@
 use Rattle.little.proofs.LittleLaws as laws
-use mathlib.Core.Path.{◌∙◌, sym, ap}
-use borrow.Author.Rules.{rules}
-use Rattle.little.proofs.put.Reads as reads
-use Rattle.little.proofs.put.Lts as lts
-use Rattle.little.proofs.lowest.Reads as lowest-reads
-use Rattle.little.proofs.put_byte.Reads as put-byte-reads
-use Rattle.little.proofs.put_u16.Reads as put-u16-reads
-use Rattle.little.proofs.put_u32.Reads as put-u32-reads
 use Rattle.little.proofs.put.Goals as goal
 
 pub returns-in-U8 : goal.returns-in-U8

@@ -1,9 +1,5 @@
-use Rattle.little.proofs.LittleLaws as laws
-use mathlib.Core.Path.{◌∙◌, sym, ap}
+use mathlib.Core.Path.{sym}
 use lib.Seq.{set_out}
-use borrow.Author.Rules.{rules}
-use Rattle.little.proofs.put_byte.Reads as reads
-use Rattle.little.proofs.put_byte.Lts as lts
 use Rattle.little.proofs.put_byte.Goals as goal
 
 pub returns-else-at-out : goal.returns-else-at-out

@@ -1,11 +1,6 @@
 use Rattle.little.proofs.LittleLaws as laws
 use Rattle.little.specs.Little.{bytes}
-use mathlib.Core.Path.{◌∙◌, sym, ap}
-use borrow.Author.Rules.{rules}
-use Rattle.little.proofs.put_u16.Reads as reads
-use Rattle.little.proofs.put_u16.Lts as lts
-use Rattle.little.proofs.lowest.Reads as lowest-reads
-use Rattle.little.proofs.put_byte.Reads as put-byte-reads
+use mathlib.Core.Path.{sym}
 use Rattle.little.proofs.put_u16.Goals as goal
 
 pub returns-then-at-out : goal.returns-then-at-out

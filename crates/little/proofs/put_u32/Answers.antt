@@ -1,10 +1,6 @@
 use Rattle.little.proofs.LittleLaws as laws
 use Rattle.little.specs.Little.{bytes}
-use mathlib.Core.Path.{◌∙◌, sym, ap}
-use borrow.Author.Rules.{rules}
-use Rattle.little.proofs.put_u32.Reads as reads
-use Rattle.little.proofs.put_u32.Lts as lts
-use Rattle.little.proofs.put_u16.Reads as put-u16-reads
+use mathlib.Core.Path.{sym}
 use Rattle.little.proofs.put_u32.Goals as goal
 
 pub returns-then-at-out : goal.returns-then-at-out

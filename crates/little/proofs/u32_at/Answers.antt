@@ -1,6 +1,5 @@
 use Rattle.little.proofs.LittleLaws as laws
 use native.Mathlib.Omega.{arith}
-use borrow.Author.Rules.{rules}
 use Rattle.little.proofs.u32_at.Goals as goal
 
 pub returns-then-b-at : goal.returns-then-b-at

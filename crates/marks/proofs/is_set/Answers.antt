@@ -1,4 +1,3 @@
-use borrow.Author.Rules.{rules}
 use Rattle.marks.proofs.MarksLaws.{past-unset, set-asked}
 use Rattle.marks.proofs.is_set.Goals as goal
 

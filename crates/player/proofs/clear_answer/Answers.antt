@@ -1,6 +1,4 @@
 use Rattle.player.proofs.PlayerLaws as laws
-use borrow.Author.Tests.{not-false, not-true}
-use borrow.Author.Rules.{rules}
 use Rattle.player.proofs.clear_answer.Goals as goal
 
 pub returns-then-not-ranged : goal.returns-then-not-ranged

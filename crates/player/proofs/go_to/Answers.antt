@@ -1,5 +1,4 @@
 use Rattle.player.proofs.PlayerLaws as laws
-use borrow.Author.Rules.{rules}
 use Rattle.player.proofs.go_to.Goals as goal
 
 pub returns-then-stops : goal.returns-then-stops

@@ -1,5 +1,4 @@
 use Rattle.player.proofs.PlayerLaws as laws
-use borrow.Author.Rules.{rules}
 use native.Mathlib.Omega.{arith}
 use Rattle.player.proofs.mute.Goals as goal
 

@@ -1,5 +1,4 @@
 use Rattle.player.proofs.PlayerLaws as laws
-use borrow.Author.Rules.{rules}
 use Rattle.player.proofs.on_to.Goals as goal
 
 pub skip_to-w-requires : goal.skip_to-w-requires

@@ -4,7 +4,6 @@ use mathlib.Core.Path.{refl}
 use native.Mathlib.Omega.{arith}
 use Rattle.std.specs.Prelude.{length}
 use Rattle.deck.specs.Player.{play_answer}
-use borrow.Author.Rules.{rules}
 use Rattle.player.proofs.play.Goals as goal
 
 pub returns-then-stops : goal.returns-then-stops

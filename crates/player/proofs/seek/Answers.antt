@@ -1,7 +1,6 @@
 use Rattle.player.proofs.PlayerLaws as laws
 use Rattle.player.proofs.RowsLaws as rows
 use Rattle.deck.specs.Player.{seek_answer}
-use borrow.Author.Rules.{rules}
 use Rattle.player.proofs.seek.Goals as goal
 
 pub returns-then-stops : goal.returns-then-stops

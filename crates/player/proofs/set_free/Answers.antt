@@ -1,6 +1,5 @@
 use Rattle.refusal.specs.declared.Refusal.TheVariants.{MarksFull}
 use Rattle.player.proofs.PlayerLaws as laws
-use borrow.Author.Rules.{rules}
 use Rattle.player.proofs.set_free.Goals as goal
 
 pub returns : goal.returns

@@ -1,5 +1,4 @@
 use Rattle.player.proofs.PlayerLaws as laws
-use borrow.Author.Rules.{rules}
 use Rattle.player.proofs.start_for.Goals as goal
 
 pub returns-then-p-target : goal.returns-then-p-target

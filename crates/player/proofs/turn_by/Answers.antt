@@ -1,5 +1,4 @@
 use Rattle.player.proofs.PlayerLaws as laws
-use borrow.Author.Rules.{rules}
 use Rattle.player.proofs.turn_by.Goals as goal
 
 pub returns-then-is_accepted : goal.returns-then-is_accepted

@@ -1,4 +1,3 @@
-use borrow.Author.Rules.{rules}
 use Rattle.player.proofs.unplayed.Goals as goal
 
 pub returns : goal.returns

@@ -2,7 +2,6 @@ use Rattle.vsu.proofs.CoreLaws as laws
 use native.Mathlib.Omega.{arith}
 use mathlib.Core.Path.{refl}
 use Rattle.vsu.specs.Core.{frame_of}
-use borrow.Author.Rules.{rules}
 use Rattle.quick.proofs.sample.Goals as goal
 
 pub overflow_mul-result : goal.overflow_mul-result

@@ -2,7 +2,6 @@ use Rattle.vsu.specs.Core.{run}
 use Rattle.vsu.proofs.RunLaws as laws
 use Rattle.vsu.proofs.RangeLaws.{range-facts, run-voices}
 use mathlib.Core.Path.{◌∙◌, sym}
-use borrow.Author.Rules.{rules}
 use Rattle.quick.proofs.skip.Goals as goal
 
 pub cycles-next-requires : goal.cycles-next-requires

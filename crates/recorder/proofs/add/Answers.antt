@@ -5,7 +5,6 @@ use lib.Seq.{sets}
 use Prim.Native.Nat.{suc}
 use Rattle.register_log.specs.Log.{entry_place}
 use Rattle.register_log.specs.Encoder.{entry_bytes}
-use borrow.Author.Rules.{rules}
 use Rattle.recorder.proofs.add.Goals as goal
 
 pub returns-then-r-cycle : goal.returns-then-r-cycle

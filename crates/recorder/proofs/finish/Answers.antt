@@ -3,7 +3,6 @@ use Rattle.register_log.specs.Log.{edition1}
 use lib.ListN.{length}
 use lib.Seq.{sets}
 use Rattle.register_log.specs.Encoder.{header_bytes}
-use borrow.Author.Rules.{rules}
 use Rattle.recorder.proofs.finish.Goals as goal
 
 pub returns-then-r-cycles : goal.returns-then-r-cycles

@@ -1,6 +1,5 @@
 use native.Mathlib.Omega.{arith}
 use Rattle.recorder.proofs.RecorderLaws as laws
-use borrow.Author.Rules.{rules}
 use Rattle.recorder.proofs.put_entry.Goals as goal
 
 pub returns : goal.returns

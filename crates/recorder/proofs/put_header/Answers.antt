@@ -1,5 +1,4 @@
 use Rattle.recorder.proofs.RecorderLaws as laws
-use borrow.Author.Rules.{rules}
 use Rattle.recorder.proofs.put_header.Goals as goal
 
 pub returns : goal.returns

@@ -3,7 +3,6 @@ use Rattle.recorder.proofs.RecorderLaws as laws
 use Rattle.register_log.specs.Log.{edition1}
 use lib.ListN.{length}
 use Rattle.recorder.specs.Recorder.{none}
-use borrow.Author.Rules.{rules}
 use Rattle.recorder.proofs.start.Goals as goal
 
 pub returns-then-buffer-lt16 : goal.returns-then-buffer-lt16

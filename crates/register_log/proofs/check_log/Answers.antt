@@ -1,7 +1,6 @@
 use Rattle.register_log.proofs.LogLaws as laws
 use Rattle.register_log.specs.Log.{edition1}
 use mathlib.Core.Path.{◌∙◌}
-use borrow.Author.Rules.{rules}
 use Rattle.register_log.proofs.check_log.Goals as goal
 
 pub returns-then-log-lt16 : goal.returns-then-log-lt16

@@ -1,8 +1,5 @@
 use Prim.Native.Nat.{◌≤◌, ◌-◌, ◌+◌}
 use mathlib.Core.Path.{◌≡◌}
-use borrow.Author.Rules.{rules}
-use native.Mathlib.Omega.{arith}
-use Rattle.register_log.proofs.LogLaws as laws
 use Rattle.register_log.specs.Log.{edition1, due_before, writes_from}
 use Rattle.register_log.proofs.count_due.Given as goal
 

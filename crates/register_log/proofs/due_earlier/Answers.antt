@@ -1,7 +1,6 @@
 use Rattle.register_log.proofs.LogLaws as laws
 use mathlib.Core.Path.{refl}
 use Rattle.register_log.specs.Log.{edition1, due_earlier}
-use borrow.Author.Rules.{rules}
 use Rattle.register_log.proofs.due_earlier.Goals as goal
 
 pub returns-then-index-eq0 : goal.returns-then-index-eq0

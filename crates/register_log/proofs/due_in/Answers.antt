@@ -1,6 +1,5 @@
 use native.Mathlib.Omega.{arith}
 use Rattle.little.proofs.LittleLaws.{number-four}
-use borrow.Author.Rules.{rules}
 use Rattle.register_log.proofs.due_in.Goals as goal
 
 pub returns : goal.returns

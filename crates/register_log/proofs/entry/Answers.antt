@@ -1,6 +1,5 @@
 use Rattle.register_log.proofs.LogLaws as laws
 use Rattle.register_log.specs.Log.{edition1}
-use borrow.Author.Rules.{rules}
 use Rattle.register_log.proofs.entry.Goals as goal
 
 pub returns : goal.returns

@@ -1,6 +1,5 @@
 use Rattle.register_log.proofs.LogLaws as laws
 use Rattle.register_log.specs.Log.{edition1}
-use borrow.Author.Rules.{rules}
 use Rattle.register_log.proofs.entry_in.Goals as goal
 
 pub returns-then-index-count : goal.returns-then-index-count

@@ -1,6 +1,5 @@
 use mathlib.Core.Path.{refl}
 use Rattle.register_log.specs.Log.{write_at, due_at}
-use borrow.Author.Rules.{rules}
 use Rattle.register_log.proofs.write_at.Goals as goal
 
 pub returns : goal.returns

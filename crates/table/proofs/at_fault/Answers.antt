@@ -1,5 +1,4 @@
 use Rattle.table.specs.Table.{field_faulty}
-use borrow.Author.Rules.{rules}
 use Rattle.table.proofs.at_fault.Goals as goal
 
 pub returns : goal.returns

@@ -1,5 +1,4 @@
 use Rattle.table.specs.Table.{broken_by}
-use borrow.Author.Rules.{rules}
 use Rattle.table.proofs.broken.Goals as goal
 
 pub returns-in-None : goal.returns-in-None

@@ -1,4 +1,3 @@
-use borrow.Author.Rules.{rules}
 use Rattle.table.specs.Table.{cell_at}
 use Rattle.table.proofs.cell_at.Goals as goal
 

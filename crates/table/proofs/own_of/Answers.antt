@@ -1,5 +1,4 @@
 use borrow.Author.Tests.{ne_eqb}
-use borrow.Author.Rules.{rules}
 use Rattle.table.specs.Table.{own_of}
 use Rattle.table.proofs.own_of.Goals as goal
 

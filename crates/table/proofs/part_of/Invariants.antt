@@ -1,10 +1,7 @@
 use Prim.Native.Nat.{◌≤◌, ◌-◌}
-use mathlib.Core.Path.{◌≡◌, refl, sym, ◌∙◌}
-use native.Mathlib.Omega.{arith}
+use mathlib.Core.Path.{◌≡◌}
 use lib.ListN.{drop, length}
-use borrow.Author.Rules.{rules}
 use Rattle.table.specs.Table.{part_in, part_of}
-use Rattle.table.proofs.TableLaws as laws
 use Rattle.table.proofs.part_of.Given as goal
 
 abbrev pub invariant-loop-k : goal.invariant-loop-k

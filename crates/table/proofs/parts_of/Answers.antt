@@ -1,4 +1,3 @@
-use borrow.Author.Rules.{rules}
 use Rattle.table.proofs.parts_of.Goals as goal
 
 pub returns-in-First : goal.returns-in-First

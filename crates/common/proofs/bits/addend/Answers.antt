@@ -2,7 +2,6 @@ use Rattle.common.proofs.BitsLaws as laws
 use native.Mathlib.Omega.{arith}
 use mathlib.Core.Path.{ap}
 use lib.IntN.{nat_abs}
-use Rattle.common.specs.Bits.{addend}
 use Rattle.common.proofs.bits.addend.Goals as goal
 
 pub overflow_cast-result : goal.overflow_cast-result

@@ -1,6 +1,5 @@
 use Rattle.common.proofs.BitsLaws as laws
 use native.Mathlib.Omega.{arith}
-use borrow.Author.Rules.{rules}
 use Rattle.common.proofs.bits.field.Goals as goal
 
 pub returns-then-from-gt7 : goal.returns-then-from-gt7

@@ -1,5 +1,4 @@
 use Rattle.common.proofs.BitsLaws as laws
-use borrow.Author.Rules.{rules}
 use Rattle.common.proofs.bits.shifted.Goals as goal
 
 pub returns-else-by-lt16 : goal.returns-else-by-lt16

@@ -1,5 +1,4 @@
 use Rattle.common.proofs.BitsLaws as laws
-use borrow.Author.Rules.{rules}
 use Rattle.common.proofs.bits.signed.Goals as goal
 
 pub overflow_sub-result : goal.overflow_sub-result

@@ -1,6 +1,5 @@
 use Rattle.common.proofs.ChannelLaws as laws
 use borrow.Author.Tests.{not-true, not-false}
-use borrow.Author.Rules.{rules}
 use Rattle.common.proofs.channel.envelope_step.Goals as goal
 
 pub returns-then-e : goal.returns-then-e

@@ -1,6 +1,5 @@
 use mathlib.Core.Path.{refl}
 use Rattle.common.specs.Channel.{channel_in_range}
-use borrow.Author.Rules.{rules}
 use Rattle.common.proofs.channel.in_range.Goals as goal
 
 pub returns : goal.returns

@@ -1,6 +1,4 @@
-use borrow.Author.Tests.{not-true, not-false}
 use Rattle.common.proofs.ChannelLaws as laws
-use borrow.Author.Rules.{rules}
 use Rattle.common.proofs.channel.live_step.Goals as goal
 
 pub returns-then-not-l : goal.returns-then-not-l

@@ -11,13 +11,13 @@ returns-then-e-gt0 c = laws.level-down _ c.if-e.false c.if-e-gt0.true
 pub returns-then-e-2 : goal.returns-then-e-2
 returns-then-e-2 c =
     elim c.if-e.branch [
-      then-e+else-e-lt15 w ↦ laws.level-top _ w.if-e.true w.if-e-lt15.false c.if-e-2.true
-    | else-e+else-e-gt0 w ↦ laws.level-bottom _ w.if-e.false w.if-e-gt0.false c.if-e-2.true
+      | then-e+else-e-lt15 w ↦ laws.level-top _ w.if-e.true w.if-e-lt15.false c.if-e-2.true
+      | else-e+else-e-gt0 w ↦ laws.level-bottom _ w.if-e.false w.if-e-gt0.false c.if-e-2.true
     ]
 
 pub returns-else-e-2 : goal.returns-else-e-2
 returns-else-e-2 c =
     elim c.if-e.branch [
-      then-e+else-e-lt15 w ↦ laws.level-top _ w.if-e.true w.if-e-lt15.false c.if-e-2.false
-    | else-e+else-e-gt0 w ↦ laws.level-bottom _ w.if-e.false w.if-e-gt0.false c.if-e-2.false
+      | then-e+else-e-lt15 w ↦ laws.level-top _ w.if-e.true w.if-e-lt15.false c.if-e-2.false
+      | else-e+else-e-gt0 w ↦ laws.level-bottom _ w.if-e.false w.if-e-gt0.false c.if-e-2.false
     ]

@@ -1,5 +1,4 @@
 use Rattle.common.proofs.ChannelLaws as laws
-use borrow.Author.Rules.{rules}
 use Rattle.common.proofs.channel.pitch_step.Goals as goal
 
 pub returns-then-p-period : goal.returns-then-p-period

@@ -3,7 +3,6 @@ use Rattle.common.proofs.ChannelLaws as laws
 use native.Mathlib.Omega.{arith}
 use mathlib.Core.Path.{refl}
 use Rattle.common.specs.Channel.{side}
-use borrow.Author.Rules.{rules}
 use Rattle.common.proofs.channel.sample_side.Goals as goal
 
 small : (c : goal.After-amplitude) → c.amplitude.result * c.args.output ≤ 8129 * 255

@@ -1,6 +1,5 @@
 use mathlib.Core.Path.{refl}
 use Rattle.common.specs.Channel.{write_envelope}
-use borrow.Author.Rules.{rules}
 use Rattle.common.proofs.channel.set_envelope.Goals as goal
 
 pub returns : goal.returns

@@ -1,6 +1,5 @@
 use mathlib.Core.Path.{refl}
 use Rattle.common.specs.Channel.{write_envelope_mode}
-use borrow.Author.Rules.{rules}
 use Rattle.common.proofs.channel.set_envelope_mode.Goals as goal
 
 pub returns : goal.returns

@@ -1,6 +1,5 @@
 use Rattle.common.proofs.ChannelLaws as laws
 use mathlib.Core.Path.{◌∙◌}
-use borrow.Author.Rules.{rules}
 use Rattle.common.proofs.channel.set_u8.Goals as goal
 
 pub returns-in-0 : goal.returns-in-0

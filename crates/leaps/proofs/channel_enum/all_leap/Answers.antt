@@ -1,7 +1,6 @@
 use Rattle.leaps.specs.ChannelEnum.{tone_leap}
 use Rattle.leaps.proofs.ChannelEnumLaws as laws
 use mathlib.Core.Path.{◌∙◌, ap}
-use borrow.Author.Rules.{rules}
 use Rattle.leaps.proofs.channel_enum.all_leap.Goals as goal
 
 pub tone_leap-requires : goal.tone_leap-requires

@@ -1,4 +1,3 @@
-use borrow.Author.Rules.{rules}
 use Rattle.leaps.proofs.channel_enum.channel_leap.Goals as goal
 
 pub returns : goal.returns

@@ -1,7 +1,6 @@
 use Rattle.leaps.specs.Distance.{least}
 use mathlib.Core.Path.{◌∙◌, ap₂}
 use Rattle.leaps.specs.ChannelEnum.{voice_far}
-use borrow.Author.Rules.{rules}
 use Rattle.leaps.proofs.channel_enum.far.Goals as goal
 
 pub returns : goal.returns

@@ -1,5 +1,4 @@
 use Rattle.leaps.proofs.ChannelEnumLaws as laws
-use borrow.Author.Rules.{rules}
 use Rattle.leaps.proofs.channel_enum.is_leapable.Goals as goal
 
 pub returns : goal.returns

@@ -1,6 +1,5 @@
 use mathlib.Core.Path.{◌∙◌, sym, ap}
 use Rattle.leaps.specs.ChannelEnum.{kind_far}
-use borrow.Author.Rules.{rules}
 use Rattle.leaps.proofs.channel_enum.kind_far.Goals as goal
 
 pub returns-in-Wave : goal.returns-in-Wave

@@ -1,6 +1,5 @@
 use Rattle.leaps.proofs.ChannelEnumLaws as laws
 use mathlib.Core.Path.{◌∙◌, sym}
-use borrow.Author.Rules.{rules}
 use Rattle.leaps.proofs.channel_enum.leap.Goals as goal
 
 pub all_leap-requires : goal.all_leap-requires

@@ -1,5 +1,4 @@
 use Rattle.leaps.specs.ChannelEnum.{kind_far, kind_leap, swept_leap}
-use borrow.Author.Rules.{rules}
 use Rattle.leaps.proofs.channel_enum.swept_leap.Goals as goal
 
 pub leap-requires : goal.leap-requires

@@ -1,5 +1,4 @@
 use Rattle.leaps.proofs.ChannelEnumLaws as laws
-use borrow.Author.Rules.{rules}
 use Rattle.leaps.proofs.channel_enum.tone_leap.Goals as goal
 
 pub channel_leap-c-requires : goal.channel_leap-c-requires

@@ -1,6 +1,5 @@
 use mathlib.Core.Path.{◌∙◌}
 use Rattle.leaps.proofs.EnvelopeLaws as laws
-use borrow.Author.Rules.{rules}
 use Rattle.leaps.proofs.envelope.far.Goals as goal
 
 pub returns-then-e : goal.returns-then-e

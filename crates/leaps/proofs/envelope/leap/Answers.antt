@@ -1,5 +1,4 @@
 use Rattle.leaps.proofs.EnvelopeLaws as laws
-use borrow.Author.Rules.{rules}
 use Rattle.leaps.proofs.envelope.leap.Goals as goal
 
 pub returns : goal.returns

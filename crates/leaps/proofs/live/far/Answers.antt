@@ -1,6 +1,5 @@
 use mathlib.Core.Path.{◌∙◌}
 use Rattle.leaps.proofs.LiveLaws as laws
-use borrow.Author.Rules.{rules}
 use Rattle.leaps.proofs.live.far.Goals as goal
 
 pub returns-then-l : goal.returns-then-l

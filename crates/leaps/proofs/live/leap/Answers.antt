@@ -1,6 +1,5 @@
 use Rattle.leaps.proofs.LiveLaws as laws
 use borrow.Author.Rules.{rules}
-use borrow.Author.Tests.{not-true, not-false}
 use Rattle.leaps.proofs.live.leap.Goals as goal
 
 pub returns-then-not-l : goal.returns-then-not-l

@@ -1,6 +1,5 @@
 use native.Mathlib.Omega.{arith}
 use Rattle.leaps.proofs.PitchLaws as laws
-use borrow.Author.Rules.{rules}
 use Rattle.leaps.proofs.pitch.far.Goals as goal
 
 pub overflow_mul-result : goal.overflow_mul-result

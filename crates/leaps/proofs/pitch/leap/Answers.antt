@@ -1,9 +1,6 @@
 use native.Mathlib.Omega.{arith}
-use Rattle.leaps.specs.Pitch.{pitch_after}
 use Rattle.leaps.proofs.PitchLaws as laws
-use mathlib.Core.Path.{◌≡◌, refl, ◌∙◌, sym}
-use Prim.Native.Nat.{◌≤◌, ◌+◌}
-use borrow.Author.Rules.{rules}
+use mathlib.Core.Path.{refl, ◌∙◌, sym}
 use Rattle.leaps.proofs.pitch.leap.Goals as goal
 
 pub counted-requires : goal.counted-requires

@@ -1,9 +1,7 @@
-use native.Mathlib.Omega.{arith}
 use Rattle.leaps.specs.Pitch.{pitch_after}
 use Rattle.leaps.proofs.PitchLaws as laws
-use mathlib.Core.Path.{◌≡◌, refl, ◌∙◌, sym}
+use mathlib.Core.Path.{◌≡◌}
 use Prim.Native.Nat.{◌≤◌, ◌+◌}
-use borrow.Author.Rules.{rules}
 use Rattle.leaps.proofs.pitch.leap.Given as goal
 
 abbrev pub invariant-loop-left : goal.invariant-loop-left

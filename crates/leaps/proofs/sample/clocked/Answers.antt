@@ -3,7 +3,6 @@ use native.Mathlib.Omega.{arith}
 use Rattle.leaps.specs.Sample.{samples_on}
 use Rattle.leaps.proofs.SampleLaws as laws
 use mathlib.Core.Path.{◌≡◌, refl, ◌∙◌, ap}
-use Prim.Native.Nat.{◌≤◌, ◌-◌}
 use borrow.Author.Rules.{rules}
 use Rattle.leaps.proofs.sample.clocked.Goals as goal
 

@@ -1,10 +1,6 @@
-use Prim.Native.Nat.{ℕ}
-use native.Mathlib.Omega.{arith}
 use Rattle.leaps.specs.Sample.{samples_on}
-use Rattle.leaps.proofs.SampleLaws as laws
-use mathlib.Core.Path.{◌≡◌, refl, ◌∙◌, ap}
+use mathlib.Core.Path.{◌≡◌}
 use Prim.Native.Nat.{◌≤◌, ◌-◌}
-use borrow.Author.Rules.{rules}
 use Rattle.leaps.proofs.sample.clocked.Given as goal
 
 abbrev pub invariant-loop-i : goal.invariant-loop-i

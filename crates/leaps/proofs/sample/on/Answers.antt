@@ -1,7 +1,6 @@
 use Rattle.leaps.specs.Sample.{samples_on}
 use mathlib.Core.Path.{◌∙◌, sym, ap}
 use Rattle.leaps.proofs.SampleLaws as laws
-use borrow.Author.Rules.{rules}
 use Rattle.leaps.proofs.sample.on.Goals as goal
 
 pub returns-in-Wave : goal.returns-in-Wave

@@ -1,6 +1,5 @@
 use Rattle.leaps.proofs.SweepModulateLaws as laws
 use mathlib.Core.Path.{◌∙◌}
-use borrow.Author.Rules.{rules}
 use Rattle.leaps.proofs.sweep_modulate.far.Goals as goal
 
 pub returns-then-s : goal.returns-then-s

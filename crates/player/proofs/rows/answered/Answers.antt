@@ -1,5 +1,4 @@
 use Rattle.player.proofs.RowsLaws as rows
-use borrow.Author.Rules.{rules}
 use Rattle.player.proofs.rows.answered.Goals as goal
 
 pub returns-in-Accepted : goal.returns-in-Accepted

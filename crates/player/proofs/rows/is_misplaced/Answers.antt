@@ -1,5 +1,4 @@
 use Rattle.player.proofs.RowsLaws as rows
-use borrow.Author.Rules.{rules}
 use Rattle.player.proofs.rows.is_misplaced.Goals as goal
 
 pub returns-in-Log : goal.returns-in-Log

@@ -1,5 +1,4 @@
 use Rattle.player.proofs.RowsLaws as rows
-use borrow.Author.Rules.{rules}
 use Rattle.player.proofs.rows.row.Goals as goal
 
 pub returns-then-fault : goal.returns-then-fault

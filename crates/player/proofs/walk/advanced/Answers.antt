@@ -1,6 +1,5 @@
 use Rattle.vsu.specs.declared.unit.Moved.{Moved}
 use mathlib.Core.Path.{ap}
-use borrow.Author.Rules.{rules}
 use Rattle.player.proofs.walk.advanced.Goals as goal
 
 pub returns : goal.returns

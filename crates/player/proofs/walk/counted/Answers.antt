@@ -1,4 +1,3 @@
-use borrow.Author.Rules.{rules}
 use Rattle.player.specs.Walk.{counted_by}
 use Rattle.player.proofs.walk.counted.Goals as goal
 

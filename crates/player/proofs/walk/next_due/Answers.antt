@@ -1,4 +1,3 @@
-use borrow.Author.Rules.{rules}
 use Rattle.player.proofs.WalkLaws as laws
 use Rattle.player.proofs.walk.next_due.Goals as goal
 

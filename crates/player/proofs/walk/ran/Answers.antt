@@ -1,6 +1,5 @@
 use Rattle.vsu.specs.declared.unit.Ran.{Ran}
 use mathlib.Core.Path.{ap}
-use borrow.Author.Rules.{rules}
 use Rattle.player.proofs.walk.ran.Goals as goal
 
 pub returns : goal.returns

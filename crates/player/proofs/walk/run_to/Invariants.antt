@@ -1,9 +1,5 @@
-use borrow.Author.Rules.{rules}
 use Rattle.player.proofs.WalkLaws as laws
-use Rattle.std.specs.Prelude.{◌≡◌, ◌+◌, ◌-◌, ◌*◌, ◌^◌, ◌<◌, ◌≤◌, length}
-use mathlib.Core.Path.{refl, ap, ◌∙◌}
-use native.Mathlib.Omega.{arith}
-use Rattle.player.specs.declared.walk.Heard.{Heard}
+use Rattle.std.specs.Prelude.{◌+◌, ◌-◌}
 use Rattle.player.proofs.walk.run_to.Given as goal
 
 abbrev pub invariant-loop-cycle : goal.invariant-loop-cycle

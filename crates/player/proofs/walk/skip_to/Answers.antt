@@ -1,6 +1,6 @@
 use borrow.Author.Rules.{rules}
 use Rattle.player.proofs.WalkLaws as laws
-use Rattle.std.specs.Prelude.{◌+◌, ◌-◌, ◌<◌}
+use Rattle.std.specs.Prelude.{◌<◌}
 use mathlib.Core.Path.{refl}
 use native.Mathlib.Omega.{arith}
 use Rattle.player.proofs.walk.skip_to.Goals as goal

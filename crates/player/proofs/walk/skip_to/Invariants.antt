@@ -1,8 +1,5 @@
-use borrow.Author.Rules.{rules}
 use Rattle.player.proofs.WalkLaws as laws
-use Rattle.std.specs.Prelude.{◌+◌, ◌-◌, ◌<◌}
-use mathlib.Core.Path.{refl}
-use native.Mathlib.Omega.{arith}
+use Rattle.std.specs.Prelude.{◌+◌, ◌-◌}
 use Rattle.player.proofs.walk.skip_to.Given as goal
 
 abbrev pub invariant-loop-cycle : goal.invariant-loop-cycle

@@ -1,6 +1,5 @@
 use Rattle.vsu.specs.declared.unit.Written.{Written}
 use mathlib.Core.Path.{ap}
-use borrow.Author.Rules.{rules}
 use Rattle.player.proofs.walk.written.Goals as goal
 
 pub returns : goal.returns

@@ -1,6 +1,6 @@
 use Rattle.six.specs.Core.{voices_after_all}
 use Rattle.quick.proofs.VoicesLaws as laws
-use Rattle.std.specs.Prelude.{◌≡◌, ℕ, ◌-◌, ◌≤◌, length}
+use Rattle.std.specs.Prelude.{◌≡◌, ℕ, length}
 use native.Mathlib.Omega.{arith}
 use mathlib.Core.Path.{refl, ◌∙◌, ap}
 use borrow.Author.Rules.{rules}

@@ -1,9 +1,5 @@
 use Rattle.six.specs.Core.{voices_after_all}
-use Rattle.quick.proofs.VoicesLaws as laws
-use Rattle.std.specs.Prelude.{◌≡◌, ℕ, ◌-◌, ◌≤◌, length}
-use native.Mathlib.Omega.{arith}
-use mathlib.Core.Path.{refl, ◌∙◌, ap}
-use borrow.Author.Rules.{rules}
+use Rattle.std.specs.Prelude.{◌≡◌, ◌-◌, ◌≤◌}
 use Rattle.quick.proofs.voices.cycles.Given as goal
 
 abbrev pub invariant-loop-i : goal.invariant-loop-i

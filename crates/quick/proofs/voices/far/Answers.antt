@@ -1,5 +1,4 @@
-use Rattle.quick.specs.Voices.{far_from, voices_far}
-use Rattle.std.specs.Prelude.{◌≡◌, ◌-◌, ◌≤◌, length, drop}
+use Rattle.std.specs.Prelude.{◌≡◌, length}
 use mathlib.Core.Path.{refl, ◌∙◌, ap}
 use Rattle.leaps.specs.Distance.{least}
 use Rattle.quick.proofs.VoicesLaws as laws

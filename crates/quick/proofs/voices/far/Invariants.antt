@@ -1,10 +1,5 @@
 use Rattle.quick.specs.Voices.{far_from, voices_far}
-use Rattle.std.specs.Prelude.{◌≡◌, ◌-◌, ◌≤◌, length, drop}
-use mathlib.Core.Path.{refl, ◌∙◌, ap}
-use Rattle.leaps.specs.Distance.{least}
-use Rattle.quick.proofs.VoicesLaws as laws
-use native.Mathlib.Omega.{arith}
-use borrow.Author.Rules.{rules}
+use Rattle.std.specs.Prelude.{◌≡◌, ◌-◌, ◌≤◌, drop}
 use Rattle.quick.proofs.voices.far.Given as goal
 
 abbrev pub invariant-loop-i : goal.invariant-loop-i

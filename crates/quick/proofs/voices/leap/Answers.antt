@@ -1,6 +1,5 @@
-use Rattle.leaps.specs.ChannelEnum.{leap_of}
-use Rattle.six.proofs.Upto.{up_to, up_to-none, up_to-more, up_to-all}
-use Rattle.std.specs.Prelude.{◌≡◌, ◌-◌, ◌≤◌, length}
+use Rattle.six.proofs.Upto.{up_to-none, up_to-more, up_to-all}
+use Rattle.std.specs.Prelude.{◌≡◌, length}
 use native.Mathlib.Omega.{arith}
 use borrow.Author.Rules.{rules}
 use Rattle.quick.proofs.voices.leap.Goals as goal

@@ -1,8 +1,6 @@
 use Rattle.leaps.specs.ChannelEnum.{leap_of}
-use Rattle.six.proofs.Upto.{up_to, up_to-none, up_to-more, up_to-all}
-use Rattle.std.specs.Prelude.{◌≡◌, ◌-◌, ◌≤◌, length}
-use native.Mathlib.Omega.{arith}
-use borrow.Author.Rules.{rules}
+use Rattle.six.proofs.Upto.{up_to}
+use Rattle.std.specs.Prelude.{◌≡◌, ◌-◌, ◌≤◌}
 use Rattle.quick.proofs.voices.leap.Given as goal
 
 abbrev pub invariant-loop-i : goal.invariant-loop-i

@@ -1,5 +1,4 @@
 use Rattle.register_log.proofs.ReaderLaws as laws
-use borrow.Author.Rules.{rules}
 use Rattle.register_log.proofs.reader.place_after.Goals as goal
 
 pub returns-then-at-count : goal.returns-then-at-count

@@ -1,5 +1,4 @@
 use Rattle.six.proofs.CoreLaws.{muted, not-muted}
-use borrow.Author.Rules.{rules}
 use Rattle.six.proofs.unit.audible.Goals as goal
 
 pub returns-then-flag : goal.returns-then-flag

@@ -1,4 +1,3 @@
-use borrow.Author.Rules.{rules}
 use Rattle.six.proofs.CoreLaws.{after-walk}
 use Rattle.six.proofs.unit.cycle.Goals as goal
 

@@ -1,9 +1,5 @@
-use Rattle.std.specs.Prelude.{◌≡◌, ℕ, ◌-◌, ◌≤◌}
-use mathlib.Core.Path.{refl, ap, ◌∙◌}
-use native.Mathlib.Omega.{arith}
-use borrow.Author.Rules.{rules}
+use Rattle.std.specs.Prelude.{◌≡◌, ◌-◌, ◌≤◌}
 use Rattle.six.specs.Core.{voices_after_all}
-use Rattle.six.proofs.CoreLaws.{one-cycle-more}
 use Rattle.six.proofs.unit.cycles.Given as goal
 
 abbrev pub invariant-loop-i : goal.invariant-loop-i

@@ -1,6 +1,5 @@
 use mathlib.Core.Path.{refl}
 use Rattle.six.specs.Core.{voices_in_range}
-use borrow.Author.Rules.{rules}
 use Rattle.six.proofs.unit.in_range.Goals as goal
 
 pub returns : goal.returns

@@ -1,8 +1,8 @@
-use Rattle.std.specs.Prelude.{◌≡◌, ◌-◌, ◌*◌, ◌≤◌, map, length, take}
+use Rattle.std.specs.Prelude.{◌≡◌, length}
 use mathlib.Core.Path.{refl}
 use native.Mathlib.Omega.{arith}
 use borrow.Author.Rules.{rules}
-use Rattle.six.specs.Core.{total, heard_left, heard_right}
+use Rattle.six.specs.Core.{heard_left, heard_right}
 use Rattle.six.proofs.CoreLaws as laws
 use Rattle.six.proofs.unit.mix.Goals as goal
 

@@ -1,9 +1,5 @@
-use Rattle.std.specs.Prelude.{◌≡◌, ◌-◌, ◌*◌, ◌≤◌, map, length, take}
-use mathlib.Core.Path.{refl}
-use native.Mathlib.Omega.{arith}
-use borrow.Author.Rules.{rules}
+use Rattle.std.specs.Prelude.{◌≡◌, ◌-◌, ◌*◌, ◌≤◌, map, take}
 use Rattle.six.specs.Core.{total, heard_left, heard_right}
-use Rattle.six.proofs.CoreLaws as laws
 use Rattle.six.proofs.unit.mix.Given as goal
 
 -- each side is the sum of the voices passed, and none of them is above what a voice adds at most

@@ -1,5 +1,4 @@
 use mathlib.Core.Path.{refl}
-use borrow.Author.Rules.{rules}
 use Rattle.six.proofs.unit.new_pcm_ch5.Goals as goal
 
 pub returns : goal.returns

@@ -1,9 +1,8 @@
-use Rattle.std.specs.Prelude.{◌≡◌, ◌-◌, ◌≤◌, length, drop}
+use Rattle.std.specs.Prelude.{◌≡◌, length}
 use mathlib.Core.Path.{refl}
 use native.Mathlib.Omega.{arith}
 use borrow.Author.Rules.{rules}
 use Rattle.six.proofs.CoreLaws as laws
-use Rattle.six.specs.Core.{any_plays}
 use Rattle.six.proofs.unit.playback_occuring.Goals as goal
 
 pub loop-i-init : goal.loop-i-init

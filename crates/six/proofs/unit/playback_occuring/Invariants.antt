@@ -1,8 +1,4 @@
-use Rattle.std.specs.Prelude.{◌≡◌, ◌-◌, ◌≤◌, length, drop}
-use mathlib.Core.Path.{refl}
-use native.Mathlib.Omega.{arith}
-use borrow.Author.Rules.{rules}
-use Rattle.six.proofs.CoreLaws as laws
+use Rattle.std.specs.Prelude.{◌≡◌, ◌-◌, ◌≤◌, drop}
 use Rattle.six.specs.Core.{any_plays}
 use Rattle.six.proofs.unit.playback_occuring.Given as goal
 

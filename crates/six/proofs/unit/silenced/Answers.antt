@@ -1,9 +1,8 @@
-use Rattle.std.specs.Prelude.{◌≡◌, ◌-◌, ◌≤◌, length}
+use Rattle.std.specs.Prelude.{◌≡◌, length}
 use native.Mathlib.Omega.{arith}
 use borrow.Author.Rules.{rules}
-use Rattle.six.specs.Core.{audible}
 use Rattle.six.proofs.CoreLaws.{silenced-all}
-use Rattle.six.proofs.Upto.{up_to_by, up_to_by-none, up_to_by-more}
+use Rattle.six.proofs.Upto.{up_to_by-none, up_to_by-more}
 use Rattle.six.proofs.unit.silenced.Goals as goal
 
 pub loop-i-init : goal.loop-i-init

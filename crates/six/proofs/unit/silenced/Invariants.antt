@@ -1,9 +1,6 @@
-use Rattle.std.specs.Prelude.{◌≡◌, ◌-◌, ◌≤◌, length}
-use native.Mathlib.Omega.{arith}
-use borrow.Author.Rules.{rules}
+use Rattle.std.specs.Prelude.{◌≡◌, ◌-◌, ◌≤◌}
 use Rattle.six.specs.Core.{audible}
-use Rattle.six.proofs.CoreLaws.{silenced-all}
-use Rattle.six.proofs.Upto.{up_to_by, up_to_by-none, up_to_by-more}
+use Rattle.six.proofs.Upto.{up_to_by}
 use Rattle.six.proofs.unit.silenced.Given as goal
 
 abbrev pub invariant-loop-i : goal.invariant-loop-i

@@ -1,6 +1,5 @@
 use mathlib.Core.Path.{refl}
 use Rattle.six.specs.Core.{sweep_fifth}
-use borrow.Author.Rules.{rules}
 use Rattle.six.proofs.unit.step_sweep_modulate.Goals as goal
 
 pub returns : goal.returns

@@ -2,7 +2,7 @@ use Rattle.std.specs.Prelude.{◌≡◌, List, length}
 use native.Mathlib.Omega.{arith}
 use borrow.Author.Rules.{rules}
 use Rattle.voice.specs.declared.channel_enum.Voice.{Voice}
-use Rattle.six.proofs.Upto.{up_to, up_to-none, up_to-all}
+use Rattle.six.proofs.Upto.{up_to-none, up_to-all}
 use Rattle.six.proofs.CoreLaws.{step_voice, voice-more}
 use Rattle.six.proofs.unit.step_voices.Goals as goal
 

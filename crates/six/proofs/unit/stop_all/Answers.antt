@@ -1,8 +1,7 @@
-use Rattle.std.specs.Prelude.{◌≡◌, ◌-◌, ◌≤◌, length}
+use Rattle.std.specs.Prelude.{◌≡◌, length}
 use native.Mathlib.Omega.{arith}
 use borrow.Author.Rules.{rules}
-use Rattle.voice.specs.ChannelEnum.{stop_voice}
-use Rattle.six.proofs.Upto.{up_to, up_to-none, up_to-more, up_to-all}
+use Rattle.six.proofs.Upto.{up_to-none, up_to-more, up_to-all}
 use Rattle.six.proofs.unit.stop_all.Goals as goal
 
 pub loop-i-init : goal.loop-i-init

@@ -1,8 +1,6 @@
-use Rattle.std.specs.Prelude.{◌≡◌, ◌-◌, ◌≤◌, length}
-use native.Mathlib.Omega.{arith}
-use borrow.Author.Rules.{rules}
+use Rattle.std.specs.Prelude.{◌≡◌, ◌-◌, ◌≤◌}
 use Rattle.voice.specs.ChannelEnum.{stop_voice}
-use Rattle.six.proofs.Upto.{up_to, up_to-none, up_to-more, up_to-all}
+use Rattle.six.proofs.Upto.{up_to}
 use Rattle.six.proofs.unit.stop_all.Given as goal
 
 abbrev pub invariant-loop-i : goal.invariant-loop-i

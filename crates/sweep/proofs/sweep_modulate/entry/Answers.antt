@@ -1,7 +1,6 @@
 use mathlib.Core.Path.{sym}
 use lib.IntN.{pos}
 use lib.ListN.{get_or-eq_default}
-use borrow.Author.Rules.{rules}
 use Rattle.sweep.proofs.sweep_modulate.entry.Goals as goal
 
 pub returns-else-at-entries : goal.returns-else-at-entries

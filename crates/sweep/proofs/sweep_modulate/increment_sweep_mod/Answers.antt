@@ -1,5 +1,4 @@
 use mathlib.Core.Path.{◌∙◌}
-use borrow.Author.Rules.{rules}
 use Rattle.sweep.specs.SweepModulate.{sweep_due}
 use Rattle.sweep.proofs.SweepModulateLaws as laws
 use Rattle.sweep.proofs.sweep_modulate.increment_sweep_mod.Goals as goal

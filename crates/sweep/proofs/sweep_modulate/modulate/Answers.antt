@@ -1,7 +1,4 @@
-use mathlib.Core.Path.{◌≡◌}
 use native.Mathlib.Omega.{arith}
-use borrow.Author.Rules.{rules}
-use Rattle.common.specs.Bits.{addend}
 use Rattle.sweep.proofs.SweepModulateLaws as laws
 use Rattle.sweep.proofs.sweep_modulate.modulate.Goals as goal
 

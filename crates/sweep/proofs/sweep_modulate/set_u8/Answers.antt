@@ -1,5 +1,4 @@
 use borrow.Author.Tests.{ne_eqb}
-use borrow.Author.Rules.{rules}
 use Rattle.sweep.specs.SweepModulate.{sweep_write, restart, rewrite, write_mode, write_sweep}
 use Rattle.sweep.proofs.sweep_modulate.set_u8.Goals as goal
 

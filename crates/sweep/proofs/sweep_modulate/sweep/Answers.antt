@@ -1,6 +1,5 @@
 use lib.Pow.{shr_le}
 use borrow.Author.Tests.{not-true, not-false}
-use borrow.Author.Rules.{rules}
 use Rattle.sweep.proofs.SweepModulateLaws as laws
 use Rattle.sweep.proofs.sweep_modulate.sweep.Goals as goal
 

@@ -1,4 +1,3 @@
-use borrow.Author.Rules.{rules}
 use Rattle.voice.specs.ChannelEnum.{period_of}
 use Rattle.voice.proofs.channel_enum.cycles_per_frequency_tick.Goals as goal
 

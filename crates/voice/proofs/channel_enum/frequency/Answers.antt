@@ -1,4 +1,3 @@
-use borrow.Author.Rules.{rules}
 use Rattle.voice.specs.ChannelEnum.{frequency_of}
 use Rattle.voice.proofs.channel_enum.frequency.Goals as goal
 

@@ -1,4 +1,3 @@
-use borrow.Author.Rules.{rules}
 use Rattle.voice.specs.ChannelEnum.{offsets_of}
 use Rattle.voice.proofs.channel_enum.has_offset.Goals as goal
 

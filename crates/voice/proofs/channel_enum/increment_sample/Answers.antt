@@ -1,5 +1,4 @@
 use native.Mathlib.Nat.{mod-add-mod}
-use borrow.Author.Rules.{rules}
 use Rattle.voice.specs.ChannelEnum.{next_sample}
 use Rattle.voice.proofs.channel_enum.increment_sample.Goals as goal
 

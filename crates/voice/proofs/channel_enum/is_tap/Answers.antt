@@ -1,9 +1,7 @@
-use Prim.Native.Nat.{◌≤◌, ◌-◌}
-use mathlib.Core.Path.{◌≡◌, refl, sym}
-use lib.ListN.{drop}
+use mathlib.Core.Path.{refl, sym}
 use native.Mathlib.Omega.{arith}
 use borrow.Author.Rules.{rules}
-use Rattle.voice.specs.ChannelEnum.{is_in, taps}
+use Rattle.voice.specs.ChannelEnum.{taps}
 use Rattle.voice.proofs.ChannelEnumLaws as laws
 use Rattle.voice.proofs.channel_enum.is_tap.Goals as goal
 

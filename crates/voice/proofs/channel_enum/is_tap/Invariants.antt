@@ -1,10 +1,7 @@
 use Prim.Native.Nat.{◌≤◌, ◌-◌}
-use mathlib.Core.Path.{◌≡◌, refl, sym}
+use mathlib.Core.Path.{◌≡◌}
 use lib.ListN.{drop}
-use native.Mathlib.Omega.{arith}
-use borrow.Author.Rules.{rules}
 use Rattle.voice.specs.ChannelEnum.{is_in, taps}
-use Rattle.voice.proofs.ChannelEnumLaws as laws
 use Rattle.voice.proofs.channel_enum.is_tap.Given as goal
 
 abbrev pub invariant-loop-i : goal.invariant-loop-i

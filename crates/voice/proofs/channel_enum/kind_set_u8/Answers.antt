@@ -1,4 +1,3 @@
-use borrow.Author.Rules.{rules}
 use Rattle.voice.specs.ChannelEnum.{kind_write}
 use Rattle.voice.proofs.channel_enum.kind_set_u8.Goals as goal
 

@@ -1,5 +1,4 @@
 use mathlib.Core.Bool.{and-false}
-use borrow.Author.Rules.{rules}
 use Rattle.voice.specs.ChannelEnum.{noise_in_range, noise_kind_in_range}
 use Rattle.voice.proofs.channel_enum.noise_in_range.Goals as goal
 

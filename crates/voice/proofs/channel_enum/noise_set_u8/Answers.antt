@@ -1,5 +1,4 @@
 use borrow.Author.Tests.{ne_eqb}
-use borrow.Author.Rules.{rules}
 use Rattle.voice.specs.ChannelEnum.{noise_write}
 use Rattle.voice.proofs.channel_enum.noise_set_u8.Goals as goal
 

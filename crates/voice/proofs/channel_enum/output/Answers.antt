@@ -1,4 +1,3 @@
-use borrow.Author.Rules.{rules}
 use Rattle.voice.specs.ChannelEnum.{sample_of}
 use Rattle.voice.proofs.channel_enum.output.Goals as goal
 

@@ -1,6 +1,5 @@
 use Rattle.voice.proofs.ChannelEnumLaws as laws
 use borrow.Author.Tests.{not-true, not-false}
-use borrow.Author.Rules.{rules}
 use Rattle.voice.proofs.channel_enum.sample.Goals as goal
 
 pub returns-then-not-c : goal.returns-then-not-c

@@ -1,4 +1,3 @@
-use borrow.Author.Rules.{rules}
 use Rattle.voice.specs.ChannelEnum.{voice_write}
 use Rattle.voice.proofs.channel_enum.set_u8.Goals as goal
 

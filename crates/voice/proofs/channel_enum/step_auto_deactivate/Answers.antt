@@ -1,4 +1,3 @@
-use borrow.Author.Rules.{rules}
 use Rattle.voice.specs.ChannelEnum.{step_auto_stop}
 use Rattle.voice.proofs.channel_enum.step_auto_deactivate.Goals as goal
 

@@ -1,4 +1,3 @@
-use borrow.Author.Rules.{rules}
 use Rattle.voice.specs.ChannelEnum.{step_envelope}
 use Rattle.voice.proofs.channel_enum.step_envelope.Goals as goal
 

@@ -1,4 +1,3 @@
-use borrow.Author.Rules.{rules}
 use Rattle.voice.proofs.ChannelEnumLaws as laws
 use Rattle.voice.proofs.channel_enum.step_sampling_frequency.Goals as goal
 

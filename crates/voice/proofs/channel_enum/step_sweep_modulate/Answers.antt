@@ -1,4 +1,3 @@
-use borrow.Author.Rules.{rules}
 use Rattle.voice.specs.ChannelEnum.{step_sweep_of}
 use Rattle.voice.proofs.channel_enum.step_sweep_modulate.Goals as goal
 

@@ -1,4 +1,3 @@
-use borrow.Author.Rules.{rules}
 use Rattle.voice.proofs.channel_enum.tap_bit.Goals as goal
 
 pub returns : goal.returns

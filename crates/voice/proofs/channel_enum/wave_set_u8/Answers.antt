@@ -1,6 +1,5 @@
 use native.Mathlib.Nat.{div-one}
 use borrow.Author.Tests.{ne_eqb}
-use borrow.Author.Rules.{rules}
 use Rattle.voice.specs.ChannelEnum.{wave_write}
 use Rattle.voice.proofs.channel_enum.wave_set_u8.Goals as goal
 

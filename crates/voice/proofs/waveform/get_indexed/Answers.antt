@@ -2,7 +2,6 @@ use mathlib.Core.Path.{refl, sym}
 use Rattle.voice.specs.Waveform.{sample_at}
 use borrow.Author.Tests.{lt-ltb, le-ltb}
 use lib.ListN.{get_or-eq_default}
-use borrow.Author.Rules.{rules}
 use Rattle.voice.proofs.waveform.get_indexed.Goals as goal
 
 pub returns-then-bank-gt4 : goal.returns-then-bank-gt4

@@ -1,6 +1,5 @@
 use mathlib.Core.Path.{sym, ◌∙◌}
 use Rattle.vsu.proofs.CoreLaws as laws
-use borrow.Author.Rules.{rules}
 use Rattle.vsu.proofs.unit.advance.Goals as goal
 
 pub skip-requires : goal.skip-requires

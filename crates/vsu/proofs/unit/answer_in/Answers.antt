@@ -1,4 +1,3 @@
-use borrow.Author.Rules.{rules}
 use Rattle.vsu.specs.Core.{said_answer}
 use Rattle.vsu.proofs.unit.answer_in.Goals as goal
 

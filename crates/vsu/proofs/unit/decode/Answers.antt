@@ -1,5 +1,4 @@
 use Rattle.vsu.proofs.CoreLaws as laws
-use borrow.Author.Rules.{rules}
 use Rattle.vsu.proofs.unit.decode.Goals as goal
 
 pub returns-in-1408 : goal.returns-in-1408

@@ -1,5 +1,4 @@
 use Rattle.vsu.specs.Core.{power_on}
-use borrow.Author.Rules.{rules}
 use Rattle.vsu.proofs.unit.new.Goals as goal
 
 pub returns : goal.returns

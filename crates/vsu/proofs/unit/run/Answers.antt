@@ -1,8 +1,6 @@
 use Rattle.vsu.proofs.CoreLaws as laws
-use borrow.Author.Tests.{not-true, not-false}
 use native.Mathlib.Omega.{arith}
 use mathlib.Core.Path.{sym, ◌∙◌}
-use borrow.Author.Rules.{rules}
 use Rattle.vsu.proofs.unit.run.Goals as goal
 
 pub returns-then-not-in_range : goal.returns-then-not-in_range

@@ -1,6 +1,4 @@
 use Rattle.std.specs.Prelude.{◌≡◌, ◌-◌, ◌≤◌, length}
-use mathlib.Core.Path.{refl}
-use borrow.Author.Rules.{rules}
 use Rattle.vsu.proofs.CoreLaws as laws
 use Rattle.vsu.proofs.unit.samples_in_range.Given as goal
 

@@ -1,5 +1,4 @@
 use Rattle.vsu.proofs.CoreLaws as laws
-use borrow.Author.Rules.{rules}
 use Rattle.vsu.proofs.unit.set_u8.Goals as goal
 
 pub returns-in-Wave : goal.returns-in-Wave

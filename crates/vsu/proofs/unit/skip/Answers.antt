@@ -1,5 +1,5 @@
 use Rattle.vsu.proofs.RangeLaws.{range-facts, run-keeps}
-use Rattle.std.specs.Prelude.{◌≡◌, ℕ, ◌-◌, ◌≤◌, true, length}
+use Rattle.std.specs.Prelude.{◌≡◌, ℕ, true}
 use Rattle.vsu.specs.Core.{in_range}
 use mathlib.Core.Path.{refl, sym, ap, ◌∙◌}
 use borrow.Author.Rules.{rules}

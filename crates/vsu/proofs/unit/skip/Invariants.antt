@@ -1,10 +1,4 @@
-use Rattle.vsu.proofs.RangeLaws.{range-facts, run-keeps}
-use Rattle.std.specs.Prelude.{◌≡◌, ℕ, ◌-◌, ◌≤◌, true, length}
-use Rattle.vsu.specs.Core.{in_range}
-use mathlib.Core.Path.{refl, sym, ap, ◌∙◌}
-use borrow.Author.Rules.{rules}
-use native.Mathlib.Omega.{arith}
-use Rattle.vsu.proofs.RunLaws as laws
+use Rattle.std.specs.Prelude.{◌≡◌, ◌-◌, ◌≤◌, length}
 use Rattle.vsu.specs.Core.{run}
 use Rattle.vsu.proofs.unit.skip.Given as goal
 

@@ -1,6 +1,6 @@
 use mir.Val.{to_z, of_z}
 use mir.Syntax.{w16}
-use Rattle.std.specs.Prelude.{◌≡◌, ℕ, ◌+◌, ◌-◌, ◌*◌, ◌^◌, ◌<◌, ◌≤◌, List, length, set, ℤ}
+use Rattle.std.specs.Prelude.{◌≡◌, ℕ, ◌+◌, ◌*◌, ◌^◌, ◌<◌, List, length, set, ℤ}
 use mathlib.Core.Path.{ap₂, subst, sym}
 use native.Mathlib.Omega.{arith}
 use lib.ListN.{length-set}

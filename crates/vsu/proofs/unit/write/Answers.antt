@@ -1,5 +1,4 @@
 use Rattle.vsu.proofs.CoreLaws as laws
-use borrow.Author.Rules.{rules}
 use Rattle.vsu.proofs.unit.write.Goals as goal
 
 pub returns-then-in_range : goal.returns-then-in_range

@@ -1,5 +1,4 @@
 use Rattle.vsu.proofs.CoreLaws as laws
-use borrow.Author.Rules.{rules}
 use Rattle.vsu.proofs.unit.write_stop.Goals as goal
 
 pub returns-then-flag : goal.returns-then-flag
