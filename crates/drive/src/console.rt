@@ -84,14 +84,7 @@ pub(crate) fn run(from: Stdin, to: Stdout, log: &[u8]) {
     while left > 0 && i.more {
         i = next(i, from, &mut bytes, &mut line);
         if i.ended {
-            p = answered(
-                to,
-                p,
-                call_in(&line, i.kept),
-                log,
-                &mut memory,
-                &mut sides,
-            );
+            p = answered(to, p, call_in(&line, i.kept), log, &mut memory, &mut sides);
             i = input::begun(i);
         }
         left -= 1;

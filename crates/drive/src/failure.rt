@@ -21,12 +21,10 @@ impl fmt::Write for Reason {
 
 // Where the reason ends: std puts ` (os error `, the error's number and `)` behind the system's words.
 fn end(reason: &[u8]) -> usize {
-    for (at, byte) in reason.iter().enumerate() {
-        if *byte == b'(' {
-            return at.saturating_sub(1);
-        }
+    match reason.iter().rposition(|byte| *byte == b'(') {
+        Some(at) => at.saturating_sub(1),
+        None => reason.len(),
     }
-    reason.len()
 }
 
 fn front(bytes: &[u8], size: usize) -> &[u8] {

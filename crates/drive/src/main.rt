@@ -7,7 +7,7 @@ mod console;
 mod failure;
 mod output;
 
-ghost use Rattle.std.specs.Prelude.{◌≤◌, length};
+ghost use Rattle.std.specs.Prelude.{◌≤◌, IfSome, length};
 
 use refusal::Refusal;
 use register_log::Checked;
@@ -109,7 +109,7 @@ fn drive_file(mut file: File, path: &[u8], from: Stdin, to: Stdout) {
 }
 
 // A name is text here.
-fn open(rt: &HostRuntime, path: &[u8]) -> streams::Result<File> {
+fn open(rt: &impl Files<File = File>, path: &[u8]) -> streams::Result<File> {
     match str::from_utf8(path) {
         Ok(name) => File::open(rt, name),
         Err(_) => Err(Error::from(ErrorKind::InvalidFilename)),
@@ -117,7 +117,7 @@ fn open(rt: &HostRuntime, path: &[u8]) -> streams::Result<File> {
 }
 
 // The one argument; its length.
-fn named(rt: &HostRuntime, path: &mut [u8; 4096]) -> Option<usize>
+fn named(rt: &impl Env, path: &mut [u8; 4096]) -> Option<usize>
     ensures { IfSome result (λ n. n ≤ length path.new) }
 {
     let mut second = [0u8; 1];
