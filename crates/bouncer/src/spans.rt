@@ -80,7 +80,8 @@ fn lines(
     next
 }
 
-// The hundredths, where anybody is told.
+// Progress is told aside, not where the lines go to a terminal: the two would mix; and not of a log of one span, which is done before there
+// is anything to tell.
 fn shown(last: u32, done: u32, all: u32, terminals: Terminals) -> u32 {
     if (all > SPAN) & !terminals.output {
         return progress::show(last, done, all, terminals);
@@ -115,8 +116,7 @@ fn span(l: Listing, n: u32, to: u32, log: &[u8], cycles: u32, terminals: Termina
     }
 }
 
-// Whether all frames are listed. Progress is told aside, not where the lines go to a terminal: the two would mix; and not of a log of one
-// span, which is done before there is anything to tell. No first span comes to the 100, so the first is told.
+// Whether all frames are listed. No first span comes to the 100, so the first is told.
 pub(crate) fn list(log: &[u8], cycles: u32, terminals: Terminals) -> bool {
     let t = player::open(log);
     let p = t.player;

@@ -7,7 +7,7 @@ use lines::input;
 use lines::input::Input;
 use refusal::Answer;
 use report::text;
-use std::io::{Read, Stdin, Stdout};
+use std::io::{Read, Result, Stdin, Stdout};
 
 fn call_in(line: &[u8; 17], kept: usize) -> Call {
     let front: &[u8] = line;
@@ -55,18 +55,21 @@ fn answered(
     q
 }
 
+fn failed(got: Result<usize>) -> bool {
+    if let Err(why) = got {
+        failure::told(b"standard input", why);
+        return true;
+    }
+    false
+}
+
 // The next byte, or, where all that were read are used, the next read.
 fn next(i: Input, mut from: Stdin, bytes: &mut [u8; 4096], line: &mut [u8; 17]) -> Input {
     if i.at < i.size {
         return input::stepped(i, bytes, line);
     }
-    match from.read(bytes) {
-        Ok(size) => input::filled(i, size, false),
-        Err(why) => {
-            failure::told(b"standard input", why);
-            input::filled(i, 0, true)
-        }
-    }
+    let got = from.read(bytes);
+    input::filled(i, got.unwrap_or(0), failed(got))
 }
 
 // A line is the bytes up to a newline; a rest without one at the end is a line too. The frame buffer holds 32,768 frames. A line that

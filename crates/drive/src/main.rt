@@ -15,46 +15,37 @@ use report::streams::STDERR_FILENO;
 use report::text;
 use std::env::FillError;
 use std::fs::File;
-use std::io::{Error, ErrorKind, Read, Stdin, Stdout};
+use std::io::{Error, ErrorKind, Read, Result, Stdin, Stdout};
 use std::rt::{Env, Files};
-use std::{io as streams, str};
+use std::str;
 
 // The most bytes of a log's file.
 const MOST: usize = 1_048_576;
 
-// How many bytes came, and whether a read failed.
+// How many bytes came, and why a read failed, if one did.
 #[derive(Clone, Copy)]
 struct Taken {
     size: usize,
-    failed: bool,
+    failed: Option<Error>,
 }
 
-// Why a read failed is told at once.
-fn read_some(file: &mut File, path: &[u8], space: &mut [u8]) -> Taken
+fn read_some(file: &mut File, space: &mut [u8]) -> Taken
     ensures { result.size ≤ length space.old }
 {
-    match file.read(space) {
-        Ok(size) => Taken {
-            size: size,
-            failed: false,
-        },
-        Err(why) => {
-            failure::told(path, why);
-            Taken {
-                size: 0,
-                failed: true,
-            }
-        }
+    let got = file.read(space);
+    Taken {
+        size: got.unwrap_or(0),
+        failed: got.err(),
     }
 }
 
 // A read may bring a part only, as of a pipe.
-fn read_all(file: &mut File, path: &[u8], space: &mut [u8]) -> Taken
+fn read_all(file: &mut File, space: &mut [u8]) -> Taken
     ensures { result.size ≤ length space.new }
 {
     let mut size = 0;
     while size < space.len() {
-        let t = read_some(file, path, &mut space[size..]);
+        let t = read_some(file, &mut space[size..]);
         if t.size == 0 {
             return Taken {
                 size: size,
@@ -65,7 +56,7 @@ fn read_all(file: &mut File, path: &[u8], space: &mut [u8]) -> Taken
     }
     Taken {
         size: size,
-        failed: false,
+        failed: None,
     }
 }
 
@@ -95,24 +86,41 @@ fn drive(from: Stdin, to: Stdout, log: &[u8]) {
     }
 }
 
-// There is room for one byte more than a log may have, so that a longer one shows.
-fn drive_file(mut file: File, path: &[u8], from: Stdin, to: Stdout) {
-    let mut space = [0u8; 1048577];
-    let t = read_all(&mut file, path, &mut space);
-    drop(file);
-    let size = t.size;
-    if size > MOST {
-        refused(to, Refusal::Room);
-    } else if !t.failed {
-        drive(from, to, &space[..size]);
+// Where a read failed, the reason is told. The file is closed.
+fn take_file(mut file: File, path: &[u8], space: &mut [u8]) -> Taken
+    ensures { result.size ≤ length space.new }
+{
+    let t = read_all(&mut file, space);
+    if let Some(why) = t.failed {
+        failure::told(path, why);
     }
+    t
 }
 
 // A name is text here.
-fn open(rt: &impl Files<File = File>, path: &[u8]) -> streams::Result<File> {
+fn open(rt: &impl Files<File = File>, path: &[u8]) -> Result<File> {
     match str::from_utf8(path) {
         Ok(name) => File::open(rt, name),
         Err(_) => Err(Error::from(ErrorKind::InvalidFilename)),
+    }
+}
+
+// There is room for one byte more than a log may have, so that a longer one shows.
+fn drive_file(rt: &impl Files<File = File>, path: &[u8], from: Stdin, to: Stdout) {
+    let file = match open(rt, path) {
+        Ok(file) => file,
+        Err(why) => {
+            failure::told(path, why);
+            return;
+        }
+    };
+    let mut space = [0u8; 1048577];
+    let t = take_file(file, path, &mut space);
+    let size = t.size;
+    if size > MOST {
+        refused(to, Refusal::Room);
+    } else if t.failed.is_none() {
+        drive(from, to, &space[..size]);
     }
 }
 
@@ -133,9 +141,5 @@ fn main(rt: HostRuntime) {
         io::write_all(STDERR_FILENO, b"usage: drive FILE\n");
         return;
     };
-    let path = &path[..length];
-    match open(&rt, path) {
-        Ok(file) => drive_file(file, path, rt.stdin(), rt.stdout()),
-        Err(why) => failure::told(path, why),
-    }
+    drive_file(&rt, &path[..length], rt.stdin(), rt.stdout());
 }

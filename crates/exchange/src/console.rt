@@ -11,13 +11,11 @@ fn next(i: Input, mut from: Stdin, bytes: &mut [u8; 4096], line: &mut [u8; 128])
     if i.at < i.size {
         return input::stepped(i, bytes, line);
     }
-    match from.read(bytes) {
-        Ok(size) => input::filled(i, size, false),
-        Err(_) => {
-            io::write_all(STDERR_FILENO, b"exchange: standard input can't be read\n");
-            input::filled(i, 0, true)
-        }
+    let got = from.read(bytes);
+    if got.is_err() {
+        io::write_all(STDERR_FILENO, b"exchange: standard input can't be read\n");
     }
+    input::filled(i, got.unwrap_or(0), got.is_err())
 }
 
 fn judged(p: Pair) -> bool {

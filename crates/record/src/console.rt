@@ -5,20 +5,23 @@ use lines::input;
 use lines::input::Input;
 use recorder::{Recorder, Turn};
 use refusal::Answer;
-use std::io::{Read, Stdin};
+use std::io::{Read, Result, Stdin};
+
+fn failed(got: Result<usize>) -> bool {
+    if got.is_err() {
+        output::unread();
+        return true;
+    }
+    false
+}
 
 // The next byte, or, where all that were read are used, the next read.
 fn next(i: Input, mut from: Stdin, bytes: &mut [u8; 4096], line: &mut [u8; 37]) -> Input {
     if i.at < i.size {
         return input::stepped(i, bytes, line);
     }
-    match from.read(bytes) {
-        Ok(size) => input::filled(i, size, false),
-        Err(_) => {
-            output::unread();
-            input::filled(i, 0, true)
-        }
-    }
+    let got = from.read(bytes);
+    input::filled(i, got.unwrap_or(0), failed(got))
 }
 
 // The next line, of which the front is kept. Nothing says that it ends, so the loop counts its turns down, from a number that no line
