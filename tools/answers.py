@@ -81,7 +81,7 @@ def paths(text, way, told):
     return re.sub(r"(?<![\w.'\-])([cwd])((?:\.[A-Za-z0-9_][\w\-']*)+)", one, text)
 
 
-def turn(crate, names, path, keep):
+def turn(crate, names, path):
     folder = f"crates/{crate}/proofs/" + path.replace(".", "/")
     file = folder + "/Proof.antt"
     text = read(file)
@@ -205,7 +205,7 @@ def main(argv):
             path = os.path.relpath(folder, root).replace(os.sep, ".")
             if len(argv) > 2 and path not in argv[2:]:
                 continue
-            print(path, turn(crate, names, path, None))
+            print(path, turn(crate, names, path))
 
 
 if __name__ == "__main__":
