@@ -42,6 +42,9 @@ module _ (b : List ℕ) (at : ℕ) where
       omega
       (arith, number_step 3 b at, number_step 2 b (at + 1), same_place 2 1 {j = at + 2} (omega arith), number_step 1 b (at + 2), same_place 1 2 {j = at + 3} (omega arith), number_step 0 b (at + 3), none (at + 3 + 1))
 
+pub first_byte : (b : List ℕ) (at : ℕ) {x : ℕ} → x ≡ get_or b (at + 0) 0 → x ≡ get_or b at 0
+first_byte b at e = let a : at + 0 ≡ at = omega arith in rw (← a) e
+
 pub number-one : (b : List ℕ) (at : ℕ) → number 1 b at ≡ get_or b at 0
 number-one b at = omega (arith, number_step 0 b at, none b at (at + 1))
 

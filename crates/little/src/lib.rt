@@ -2,7 +2,7 @@
 // precondition.
 #![tactic(auto)]
 
-ghost use Rattle.std.specs.Prelude.{◌≡◌, ◌%◌, get_or, set};
+ghost use Rattle.std.specs.Prelude.{◌≡◌, ℕ, ◌+◌, ◌%◌, ◌<◌, get_or, set, slice_index};
 ghost use Rattle.std.proofs.lemmas.List.Edits.{sets};
 ghost use Rattle.little.specs.Little.{bytes, number, size_of};
 
@@ -17,40 +17,32 @@ pub enum Width {
 pub fn byte_at(b: &[u8], at: usize) -> u8
     ensures { result ≡ get_or b.now at 0 }
 {
-    if at < b.len() { b[at] } else { 0 }
+    b.get(at).copied().unwrap_or(0)
+}
+
+// The bytes from a place on.
+fn bytes_at<const N: usize>(b: &[u8], at: usize) -> [u8; N]
+    ensures { (i : ℕ) → i < N → slice_index result i ≡ get_or b.now (at + i) 0 }
+{
+    let mut bytes = [0; N];
+    if at < b.len() {
+        for i in 0..N {
+            bytes[i] = byte_at(b, at + i);
+        }
+    }
+    bytes
 }
 
 pub fn u16_at(b: &[u8], at: usize) -> u16
     ensures { result ≡ number 2 b.now at }
 {
-    if b.len() <= at {
-        return 0;
-    }
-    wide16(byte_at(b, at)) + 256 * wide16(byte_at(b, at + 1))
+    u16::from_le_bytes(bytes_at(b, at))
 }
 
 pub fn u32_at(b: &[u8], at: usize) -> u32
     ensures { result ≡ number 4 b.now at }
 {
-    if b.len() <= at {
-        return 0;
-    }
-    wide32(byte_at(b, at))
-        + 256 * wide32(byte_at(b, at + 1))
-        + 65_536 * wide32(byte_at(b, at + 2))
-        + 16_777_216 * wide32(byte_at(b, at + 3))
-}
-
-fn wide16(x: u8) -> u16
-    ensures { result ≡ x }
-{
-    x as u16
-}
-
-fn wide32(x: u8) -> u32
-    ensures { result ≡ x }
-{
-    x as u32
+    u32::from_le_bytes(bytes_at(b, at))
 }
 
 // The number of a width at a place.
@@ -58,22 +50,10 @@ pub fn number_at(b: &[u8], at: usize, width: Width) -> u32
     ensures { result ≡ number (size_of width) b.now at }
 {
     match width {
-        Width::U8 => wide32(byte_at(b, at)),
-        Width::U16 => wide(u16_at(b, at)),
+        Width::U8 => u32::from(byte_at(b, at)),
+        Width::U16 => u32::from(u16_at(b, at)),
         Width::U32 => u32_at(b, at),
     }
-}
-
-fn wide(x: u16) -> u32
-    ensures { result ≡ x }
-{
-    x as u32
-}
-
-fn lowest(x: u32) -> u8
-    ensures { result ≡ x % 256 }
-{
-    (x % 256) as u8
 }
 
 fn put_byte(out: &mut [u8], at: usize, byte: u8)
@@ -84,6 +64,7 @@ fn put_byte(out: &mut [u8], at: usize, byte: u8)
     }
 }
 
+// Twice two bytes and not a loop over four, nor one function for both: with such a loop an add of the recorder takes 2.9 ns, with these 1.9 ns.
 fn put_u16(out: &mut [u8], at: usize, value: u32)
     ensures { out.new ≡ sets out.old at (bytes 2 value) }
 {
@@ -111,4 +92,10 @@ pub fn put(out: &mut [u8], at: usize, width: Width, value: u32)
         Width::U16 => put_u16(out, at, value),
         Width::U32 => put_u32(out, at, value),
     }
+}
+
+fn lowest(x: u32) -> u8
+    ensures { result ≡ x % 256 }
+{
+    (x & 0xff) as u8
 }
