@@ -11,6 +11,11 @@ use lib.Bits.{bit_and, bit_or, and_block, and_high, and_mask, or_block, or_lt, o
 use lib.Count.{ones, ones_step, count_trailing_zeros, under}
 use lib.Dec.{eqb, leb, ltb}
 use lib.Pow.{high, high_ones, ones_lt, pow-add, pow-lt, pow_pos, shr_lt, shr-shr, split, suc_ones}
+use borrow.Author.Tests.{lt-ltb, le-ltb}
+use mathlib.Core.Logic.{inl, inr}
+use Rattle.std.proofs.lemmas.Bool.{cases_lt}
+use Rattle.std.specs.Option.{unwrap_or}
+use Rattle.std.specs.Prelude.{Option, Some, None, SomeIff, if◌then◌else◌}
 use Rattle.laws.proofs.Cases.{ways}
 use Rattle.common.specs.Bits.{bit}
 use Rattle.marks.specs.Marks.{count_from, free_from, is_set, lowest_free, marks_set, with_mark, without_mark}
@@ -253,14 +258,11 @@ module _ (s m : ℕ) (h : s ≤ 15) (g : m < 65536) where
       ∙ and_block s (m / 2 ^ s) ((2 ^ (15 - s) - 1) * 2) (m % 2 ^ s) (2 ^ s - 1) (mod-lt m (pow_pos s)) (ones_lt s)
       ∙ ap₂ (λ (x y : ℕ). x * 2 ^ s + y) and-even (and_mask (m % 2 ^ s) s ∙ mod-eq_of_lt (mod-lt m (pow_pos s)))
 
-  shifted : 1 * 2 ^ s % 65536 ≡ 2 ^ s
-  shifted = ap (λ (x : ℕ). x % 65536) (one-mul (2 ^ s)) ∙ mod-eq_of_lt (pow-lt {i = s} {j = 16} (omega (arith, h)))
+  or-with : bit_or m (2 ^ s) ≡ with_mark s m
+  or-with = or_put s m ∙ with-put s m h
 
-  pub or-with : bit_or m (1 * 2 ^ s % 65536) ≡ with_mark s m
-  or-with = ap (bit_or m) shifted ∙ or_put s m ∙ with-put s m h
-
-  pub and-without : bit_and m (65535 - 1 * 2 ^ s % 65536) ≡ without_mark s m
-  and-without = ap (λ (x : ℕ). bit_and m (65535 - x)) shifted ∙ and-put ∙ without-put s m h
+  and-without : bit_and m (65535 - 2 ^ s) ≡ without_mark s m
+  and-without = and-put ∙ without-put s m h
 
   with_in : with_mark s m < 65536
   with_in = subst (λ (x : ℕ). x < 65536) (or_put s m ∙ with-put s m h) (or_lt 16 m (2 ^ s) g (pow-lt {i = s} {j = 16} (omega (arith, h))))
@@ -277,13 +279,34 @@ without-past s m h = rw (lt-leb s 15 h)
 
 -- one mark asked
 
-pub past-unset : (s m : ℕ) → 15 < s → false ≡ is_set s m
+past-unset : (s m : ℕ) → 15 < s → false ≡ is_set s m
 unfolding is_set
 past-unset s m h = rw (lt-leb s 15 h)
 
-pub set-asked : (s m : ℕ) → s ≤ 15 → eqb (bit_and (m / 2 ^ s) 1) 1 ≡ is_set s m
+set-asked : (s m : ℕ) → s ≤ 15 → eqb (bit_and (m / 2 ^ s) 1) 1 ≡ is_set s m
 unfolding is_set
 set-asked s m h = rw (le-leb s 15 h, and_mask (m / 2 ^ s) 1)
+
+-- what the code computes, whatever the slot
+
+pub asked : (r : Option ℕ) (s m : ℕ) → SomeIff r (s < 16) (m / 2 ^ s) → eqb (bit_and (unwrap_or r 0) 1) 1 ≡ is_set s m
+asked None s m h = past-unset s m (omega (arith, h))
+asked (Some x) s m h = rw h.1 (set-asked s m (omega (arith, h.0)))
+
+module _ (s m : ℕ) (g : m < 65536) where
+  pub or_mark : bit_or m (if ltb s 16 then 2 ^ s else 0) ≡ with_mark s m
+  or_mark =
+      elim (cases_lt s 16) [
+        | inl h ↦ rw (lt-ltb s 16 h) (or-with s m (omega (arith, h)) g)
+        | inr h ↦ rw (le-ltb s 16 h, or_zero_r m) (with-past s m h)
+      ]
+
+  pub and_mark : bit_and m (65535 - (if ltb s 16 then 2 ^ s else 0)) ≡ without_mark s m
+  and_mark =
+      elim (cases_lt s 16) [
+        | inl h ↦ rw (lt-ltb s 16 h) (and-without s m (omega (arith, h)) g)
+        | inr h ↦ rw (le-ltb s 16 h) (and_mask m 16 ∙ mod-eq_of_lt g ∙ without-past s m h)
+      ]
 
 -- which marks are set afterwards
 
