@@ -1,15 +1,19 @@
 -- Laws of specs/Bits.antt: masks and shifts once over the width, and the two turns between bytes and signed numbers.
 use Prim.Native.Nat.{ℕ, suc, ◌-◌, ◌*◌, ◌/◌, ◌%◌, ◌^◌, ◌<◌, ◌≤◌}
+use mathlib.Core.Logic.{inl, inr}
 use mathlib.Core.Path.{◌≡◌, refl, sym, ◌∙◌, ap}
 use native.Mathlib.Nat.{one-mul, mod-eq_of_lt, zero-mod, div-eq_of_lt, div-le_self, lt_of_lt_of_le, lt_of_le_of_lt}
 use native.Mathlib.Omega.{arith}
 use borrow.Author.Tests.{lt-ltb, le-ltb}
 use lib.Bits.{bit_and, and_mask}
 use lib.Pow.{pow_pos, pow-lt, pow_mono}
-use lib.IntN.{ℤ, pos, negsuc, ◌+ℤ◌, ◌-ℤ◌}
+use lib.IntN.{ℤ, pos, negsuc, ◌+ℤ◌}
 use mir.Syntax.{w8, w16}
 use mir.Val.{SFits, to_z, of_z}
 use mir.Facts.{to_z-of_z, sfits_widen}
+use Rattle.std.proofs.lemmas.Bool.{cases_lt}
+use Rattle.std.specs.Prelude.{Option, Some, None, SomeIff}
+use Rattle.std.specs.Option.{unwrap_or}
 use Rattle.common.specs.Bits.{bits, signed, addend}
 
 -- the mask of a width below 8, as the machine makes it
@@ -34,24 +38,14 @@ field-whole {value} from {width} h g =
 pub shifted-out : {x k : ℕ} → x < 2 ^ 16 → 16 ≤ k → 0 ≡ x / 2 ^ k
 shifted-out h g = sym (div-eq_of_lt (lt_of_lt_of_le h (pow_mono g)))
 
+pub shifted_is : (r : Option ℕ) {x : ℕ} (k : ℕ) → x < 2 ^ 16 → SomeIff r (k < 16) (x / 2 ^ k) → unwrap_or r 0 ≡ x / 2 ^ k
+shifted_is None k h g = shifted-out h (omega (arith, g))
+shifted_is (Some y) k h g = g.1
+
 -- a byte as a signed number
-pub signed_low : {b : ℕ} → b < 128 → to_z w8 b ≡ signed b
+pub signed_is : {b : ℕ} → b < 256 → to_z w8 b ≡ signed b
 unfolding signed
-signed_low {b} h = rw (lt-ltb b 128 h)
-
-byte_above : {b : ℕ} → 128 ≤ b → b < 256 → to_z w16 b -ℤ pos 256 ≡ negsuc (255 - b)
-byte_above {b} h g = rw (lt-ltb b 32768 (omega arith), lt-ltb b 256 g) (ap negsuc (omega arith))
-
-module _ {b : ℕ} (h : 128 ≤ b) (g : b < 256) where
-  pub high_fits : SFits w16 (to_z w16 b -ℤ pos 256)
-  high_fits = rw (byte_above h g) (record { sfits = omega arith })
-
-  pub high-fits-byte : SFits w8 (to_z w16 (of_z w16 (to_z w16 b -ℤ pos 256)))
-  high-fits-byte = rw (to_z-of_z high_fits, byte_above h g) (record { sfits = omega arith })
-
-  pub signed_high : to_z w8 (of_z w8 (to_z w16 (of_z w16 (to_z w16 b -ℤ pos 256)))) ≡ signed b
-  unfolding signed
-  signed_high = to_z-of_z high-fits-byte ∙ to_z-of_z high_fits ∙ byte_above h g ∙ rw (le-ltb b 128 h)
+signed_is {b} h = elim (cases_lt b 128) [ inl l ↦ rw (lt-ltb b 128 l) | inr g ↦ rw (le-ltb b 128 g) (ap negsuc (omega (arith, h, g))) ]
 
 -- a signed number as what it adds modulo 2048
 pub addend-lt : (e : ℤ) → SFits w8 e → addend e < 2176

@@ -25,18 +25,14 @@ pub fn flag(value: u8, at: u8) -> bool
 pub fn shifted(x: u16, by: u8) -> u16
     ensures { result ≡ x / 2 ^ by }
 {
-    if by < 16 { x >> by } else { 0 }
+    x.checked_shr(u32::from(by)).unwrap_or(0)
 }
 
 // `value as i8` of the Rust.
 pub fn signed(value: u8) -> i8
     ensures { result ≡ signed value }
 {
-    if value < 128 {
-        value as i8
-    } else {
-        (value as i16 - 256) as i8
-    }
+    value.cast_signed()
 }
 
 // What the entry adds modulo 2048, as a number that is not below 0.

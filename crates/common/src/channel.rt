@@ -55,83 +55,106 @@ pub struct Pitched {
 pub fn play_off(c: Channel) -> Channel
     ensures { result ≡ play_off c }
 {
-    let mut live = c.live;
-    live.playing = false;
-    let mut d = c;
-    d.live = live;
-    d
+    Channel {
+        live: Live {
+            playing: false,
+            ..c.live
+        },
+        ..c
+    }
 }
 
+#[tactic(auto, unfolding(crate::specs::Channel::write_interval))]
 fn set_live(c: Channel, value: u8) -> Channel
     ensures { result ≡ write_interval value c }
 {
-    let mut live = c.live;
-    live.interval = bits::field(value, 0, 5);
-    live.auto = bits::flag(value, 5);
-    live.playing = bits::flag(value, 7);
-    live.counter = live.interval;
-    let mut pitch = c.pitch;
-    pitch.counter = 0;
-    let mut envelope = c.envelope;
-    envelope.step = 0;
-    let mut d = c;
-    d.live = live;
-    d.pitch = pitch;
-    d.envelope = envelope;
-    d
+    let interval = bits::field(value, 0, 5);
+    Channel {
+        live: Live {
+            interval,
+            counter: interval,
+            auto: bits::flag(value, 5),
+            playing: bits::flag(value, 7),
+            ..c.live
+        },
+        pitch: Pitch {
+            counter: 0,
+            ..c.pitch
+        },
+        envelope: Envelope {
+            step: 0,
+            ..c.envelope
+        },
+        ..c
+    }
 }
 
+#[tactic(auto, unfolding(crate::specs::Channel::write_volumes))]
 fn set_volume(c: Channel, value: u8) -> Channel
     ensures { result ≡ write_volumes value c }
 {
-    let mut d = c;
-    d.left = bits::field(value, 4, 4);
-    d.right = bits::field(value, 0, 4);
-    d
+    Channel {
+        left: bits::field(value, 4, 4),
+        right: bits::field(value, 0, 4),
+        ..c
+    }
 }
 
+#[tactic(auto, unfolding(crate::specs::Channel::write_low))]
 fn set_low(c: Channel, value: u8) -> Channel
     ensures { result ≡ write_low value c }
 {
-    let mut pitch = c.pitch;
-    pitch.frequency = bits::with_low(pitch.frequency, value);
-    let mut d = c;
-    d.pitch = pitch;
-    d
+    Channel {
+        pitch: Pitch {
+            frequency: bits::with_low(c.pitch.frequency, value),
+            ..c.pitch
+        },
+        ..c
+    }
 }
 
+#[tactic(auto, unfolding(crate::specs::Channel::write_high))]
 fn set_high(c: Channel, value: u8) -> Channel
     ensures { result ≡ write_high value c }
 {
-    let mut pitch = c.pitch;
-    pitch.frequency = bits::with_high(pitch.frequency, value);
-    let mut d = c;
-    d.pitch = pitch;
-    d
+    Channel {
+        pitch: Pitch {
+            frequency: bits::with_high(c.pitch.frequency, value),
+            ..c.pitch
+        },
+        ..c
+    }
 }
 
+#[tactic(auto, unfolding(crate::specs::Channel::write_envelope))]
 fn set_envelope(c: Channel, value: u8) -> Channel
     ensures { result ≡ write_envelope value c }
 {
-    let mut e = c.envelope;
-    e.interval = bits::field(value, 0, 3);
-    e.up = bits::flag(value, 3);
-    e.reload = bits::field(value, 4, 4);
-    e.level = e.reload;
-    let mut d = c;
-    d.envelope = e;
-    d
+    let reload = bits::field(value, 4, 4);
+    Channel {
+        envelope: Envelope {
+            interval: bits::field(value, 0, 3),
+            up: bits::flag(value, 3),
+            reload,
+            level: reload,
+            ..c.envelope
+        },
+        ..c
+    }
 }
 
+#[tactic(auto, unfolding(crate::specs::Channel::write_envelope_mode))]
 fn set_envelope_mode(c: Channel, value: u8) -> Channel
     ensures { result ≡ write_envelope_mode value c }
 {
-    let mut e = c.envelope;
-    e.on = bits::flag(value, 0);
-    e.looped = bits::flag(value, 1);
-    let mut d = c;
-    d.envelope = e;
-    d
+    Channel {
+        envelope: Envelope {
+            on: bits::flag(value, 0),
+            looped: bits::flag(value, 1),
+            ..c.envelope
+        },
+        ..c
+    }
 }
 
 pub fn set_u8(c: Channel, offset: u32, value: u8) -> Channel
@@ -251,18 +274,21 @@ pub fn sample_side(level: u8, volume: u8, output: u8) -> u32
     amplitude(level, volume) * (output as u32) / 2
 }
 
+#[tactic(auto, unfolding(crate::specs::Channel::live_in_range))]
 fn live_in_range(l: Live) -> bool
     ensures { result ≡ live_in_range l }
 {
     (l.tick <= 76_804) & (l.interval <= 31) & (l.counter <= 31)
 }
 
+#[tactic(auto, unfolding(crate::specs::Channel::pitch_in_range))]
 fn pitch_in_range(p: Pitch, most: u32) -> bool
     ensures { result ≡ pitch_in_range most p }
 {
     (p.tick <= most) & (p.frequency <= 2047) & (p.counter <= 2047)
 }
 
+#[tactic(auto, unfolding(crate::specs::Channel::envelope_in_range))]
 fn envelope_in_range(e: Envelope) -> bool
     ensures { result ≡ envelope_in_range e }
 {
@@ -270,6 +296,7 @@ fn envelope_in_range(e: Envelope) -> bool
 }
 
 // `most` is the largest tick: 3 for a wave, 39 for noise.
+#[tactic(auto, unfolding(crate::specs::Channel::channel_in_range))]
 pub fn in_range(c: Channel, most: u32) -> bool
     ensures { result ≡ channel_in_range most c }
 {

@@ -1,5 +1,6 @@
+use mathlib.Core.Path.{◌∙◌}
 use Rattle.common.proofs.BitsLaws as laws
 use Rattle.common.proofs.bits.shifted.Goals as goal
 
-pub returns-else-by-lt16 : goal.returns-else-by-lt16
-returns-else-by-lt16 c = laws.shifted-out c.ranges.x.fits c.if-by-lt16.false
+pub returns : goal.returns
+returns c = c.unwrap_or.ensures ∙ laws.shifted_is c.checked_shr.result c.args.by c.ranges.x.fits (rw c.from.ensures at c.checked_shr.ensures)
