@@ -30,6 +30,7 @@ pub struct Stepped {
     pub channel: Channel,
 }
 
+#[tactic(auto, unfolding(crate::specs::SweepModulate::sweep_write, crate::specs::SweepModulate::restart, crate::specs::SweepModulate::rewrite, crate::specs::SweepModulate::write_mode, crate::specs::SweepModulate::write_sweep))]
 pub fn set_u8(s: SweepModulate, offset: u32, value: u8) -> SweepModulate
     ensures { result ≡ sweep_write offset value s }
 {
@@ -66,11 +67,13 @@ pub fn set_u8(s: SweepModulate, offset: u32, value: u8) -> SweepModulate
 fn entry(modulation_data: &[i8; 32], index: u8) -> i8
     ensures { result ≡ get_or modulation_data.now index (pos 0) }
 {
-    let at = index as usize;
-    let entries: &[i8] = modulation_data;
-    if at < entries.len() { entries[at] } else { 0 }
+    modulation_data
+        .get(usize::from(index))
+        .copied()
+        .unwrap_or(0)
 }
 
+#[tactic(auto, unfolding(crate::specs::SweepModulate::modulate_once))]
 fn modulate(s: SweepModulate, modulation_data: &[i8; 32]) -> SweepModulate
     ensures { result ≡ modulate_once modulation_data.now s }
 {
@@ -88,6 +91,7 @@ fn modulate(s: SweepModulate, modulation_data: &[i8; 32]) -> SweepModulate
     t
 }
 
+#[tactic(auto, unfolding(crate::specs::SweepModulate::sweep_once))]
 fn sweep(s: SweepModulate, channel: Channel) -> Stepped
     ensures { result ≡ sweep_once channel s }
 {
@@ -95,10 +99,7 @@ fn sweep(s: SweepModulate, channel: Channel) -> Stepped
     let mut t = s;
     if !s.up {
         t.next = s.current - part;
-        return Stepped {
-            sweep: t,
-            channel: channel,
-        };
+        return Stepped { sweep: t, channel };
     }
     let sum = (s.current as u32) + (part as u32);
     if sum > 2047 {
@@ -108,12 +109,10 @@ fn sweep(s: SweepModulate, channel: Channel) -> Stepped
         };
     }
     t.next = sum as u16;
-    Stepped {
-        sweep: t,
-        channel: channel,
-    }
+    Stepped { sweep: t, channel }
 }
 
+#[tactic(auto, unfolding(crate::specs::SweepModulate::sweep_due))]
 fn increment_sweep_mod(s: SweepModulate, channel: Channel, modulation_data: &[i8; 32]) -> Stepped
     ensures { result ≡ sweep_due modulation_data.now channel s }
 {
@@ -123,18 +122,16 @@ fn increment_sweep_mod(s: SweepModulate, channel: Channel, modulation_data: &[i8
         if s.modulate {
             return Stepped {
                 sweep: modulate(t, modulation_data),
-                channel: channel,
+                channel,
             };
         }
         return sweep(t, channel);
     }
-    Stepped {
-        sweep: t,
-        channel: channel,
-    }
+    Stepped { sweep: t, channel }
 }
 
 // Step 4 of a cycle.
+#[tactic(auto, unfolding(crate::specs::SweepModulate::sweep_step, crate::specs::SweepModulate::sweep_ticked))]
 fn sweep_step(s: SweepModulate, channel: Channel, modulation_data: &[i8; 32]) -> Stepped
     ensures { result ≡ sweep_step modulation_data.now channel s }
 {
@@ -146,18 +143,12 @@ fn sweep_step(s: SweepModulate, channel: Channel, modulation_data: &[i8; 32]) ->
     let mut t = s;
     if s.step < period - 1 {
         t.step = s.step + 1;
-        return Stepped {
-            sweep: t,
-            channel: channel,
-        };
+        return Stepped { sweep: t, channel };
     }
     t.step = 0;
     if (s.counter as u32) + 1 < (s.interval as u32) {
         t.counter = s.counter + 1;
-        return Stepped {
-            sweep: t,
-            channel: channel,
-        };
+        return Stepped { sweep: t, channel };
     }
     t.counter = 0;
     increment_sweep_mod(t, channel, modulation_data)
@@ -173,7 +164,8 @@ pub fn step(s: SweepModulate, channel: &mut Channel, modulation_data: &[i8; 32])
     t.sweep
 }
 
-// The step with the record lent, for callers that hold it by value: the record stands in a local meanwhile.
+// The step with the record lent, for callers that hold it by value: the record stands in a local meanwhile. Both forms stay:
+// docs/DECISIONS.md names them, and `lent_record_kept` is about the other.
 pub fn step_lent(s: SweepModulate, channel: Channel, modulation_data: &[i8; 32]) -> Stepped
     ensures { result ≡ sweep_step modulation_data.now channel s }
 {
@@ -185,6 +177,7 @@ pub fn step_lent(s: SweepModulate, channel: Channel, modulation_data: &[i8; 32])
     }
 }
 
+#[tactic(auto, unfolding(crate::specs::SweepModulate::sweep_in_range))]
 pub fn in_range(s: SweepModulate) -> bool
     ensures { result ≡ sweep_in_range s }
 {
