@@ -1,23 +1,18 @@
 -- The cases of the definitions of specs/ChannelEnum.antt, one law each, over plain variables; then, that a voice in range stays in range.
 use Prim.Native.Nat.{ℕ, zero, suc, ◌+◌, ◌*◌, ◌/◌, ◌%◌, ◌^◌, ◌<◌, ◌≤◌}
 use mathlib.Core.Path.{◌≡◌, refl, sym, ap, ◌∙◌}
-use mathlib.Core.Bool.{Bool, true, false, cond, not, ◌&&◌, beq, false≢true, true≢false, and-eq-true_iff, or-true}
-use mathlib.Core.Logic.{inl, inr}
+use mathlib.Core.Bool.{Bool, true, false, cond, not, ◌&&◌, beq, false≢true, true≢false, and-eq-true_iff}
 use mathlib.Core.List.{List, [], ◌∷◌}
-use native.Mathlib.Numerals.{add-one}
 use native.Mathlib.Omega.{arith}
-use native.Mathlib.Nat.{add-zero}
 use borrow.Author.Tests.{eq-eqb, eqb-true, ne_eqb, le-leb, leb-true}
 use lib.Dec.{eqb, leb, ltb}
 use lib.IntN.{ℤ}
-use lib.ListN.{length, get_or, drop, drop_of_length-le}
-use lib.Seq.{drop-cons}
+use lib.ListN.{length, get_or}
 use Rattle.common.proofs.ChannelLaws.{side-le, pitch-frequency, channel-live-keeps, channel-pitch-keeps, channel-envelope-keeps, channel-stop-keeps, channel-write-keeps, level-le, left_le, right_le}
 use Rattle.sweep.proofs.SweepModulateLaws.{sweep-write-keeps, sweep-step-keeps, sweep-step-channel}
-use types.Run.{OneOf}
 use Rattle.laws.proofs.Cases.{both, each, ways}
 use Rattle.common.specs.Bits.{bits}
-use Rattle.common.specs.Channel.{with_pitch, with_tick_counter, with_envelope, pitch_step, envelope_step, side, channel_in_range, channel_write}
+use Rattle.common.specs.Channel.{with_pitch, with_tick_counter, with_envelope, pitch_step, envelope_step, channel_in_range, channel_write}
 use Rattle.voice.specs.ChannelEnum.{voice_of, stop_voice, taps, is_in, common_offsets, offsets_of, has_offset, wave_write, noise_write, kind_write, period_of, frequency_of, new_bit, clocked, next_sample, sampled, step_frequency, step_sweep_of, step_sweep, is_tap, wave_kind_in_range, swept_kind_in_range, noise_kind_in_range, sample_of, heard, step_auto_stop, step_envelope, voice_write, wave_in_range, swept_in_range, noise_in_range}
 use Rattle.sweep.specs.SweepModulate.{sweep_step, sweep_ticked, sweep_period, sweep_due, sweep_once, sweep_in_range, sweep_write}
 use Rattle.voice.specs.Waveform.{sample_at}
@@ -30,57 +25,6 @@ use Rattle.voice.specs.declared.channel_enum.Reading.{Reading}
 use Rattle.voice.specs.declared.channel_enum.Voice.{Voice}
 use Rattle.sweep.specs.declared.sweep_modulate.Stepped.{Stepped}
 use Rattle.sweep.specs.declared.sweep_modulate.SweepModulate.{SweepModulate}
-
--- the noise's shift register
-
-doubled : (shift : ℕ) → 2 * shift % 32768 ≡ shift % 16384 * 2
-doubled shift = omega arith
-
-module _ (shift tap : ℕ) {source tapped : ℕ} (p : source ≡ shift / 2 ^ 7) (q : tapped ≡ shift / 2 ^ tap) where
-  pub clocked-on : source % 2 ≡ tapped % 2 → Noise (shift % 16384 * 2 + 1) tap true ≡ clocked shift tap
-  unfolding clocked
-  clocked-on e = rw (doubled, ← p, ← q, eq-eqb (source % 2) (tapped % 2) e)
-
-  pub clocked-off : (source % 2 ≡ tapped % 2 → ⊥) → Noise (shift % 16384 * 2) tap false ≡ clocked shift tap
-  unfolding clocked
-  clocked-off e = rw (doubled, ← p, ← q, ne_eqb (source % 2) (tapped % 2) e, add-zero)
-
--- whether a number is in a list, from the front
-
-module _ (x : ℕ) (l : List ℕ) (i : ℕ) (h : i < length l) where
-  pub found_here : x ≡ get_or l i 0 → is_in x l ≡ is_in x (drop i l) → true ≡ is_in x l
-  found_here p e = sym (e ∙ rw (drop-cons l i 0 h, eq-eqb x (get_or l i 0) p))
-
-  pub found-later : (x ≡ get_or l i 0 → ⊥) → is_in x l ≡ is_in x (drop i l) → is_in x l ≡ is_in x (drop (i + 1) l)
-  found-later p e = e ∙ rw (drop-cons l i 0 h, ne_eqb x (get_or l i 0) p, add-one i)
-
-pub found_nowhere : (x : ℕ) (l : List ℕ) (i : ℕ) → length l ≤ i → is_in x l ≡ is_in x (drop i l) → false ≡ is_in x l
-found_nowhere x l i h e = sym (e ∙ rw (drop_of_length-le l h))
-
-abbrev all_le : ℕ → List ℕ → Bool
-all_le most [] = true
-all_le most (x ∷ xs) = leb x most && all_le most xs
-
-element-le : (most : ℕ) (l : List ℕ) → all_le most l ≡ true → (i : ℕ) → get_or l i 0 ≤ most
-element-le most [] h i = omega arith
-element-le most (x ∷ l) h zero = leb-true x most ((and-eq-true_iff (leb x most) (all_le most l)).0 h).0
-element-le most (x ∷ l) h (suc i) = element-le most l ((and-eq-true_iff (leb x most) (all_le most l)).0 h).1 i
-
-pub tap-le : (i : ℕ) → get_or taps i 0 ≤ 14
-tap-le = element-le 14 taps refl
-
--- the keys of a match's arm
-
-pub is_one : (ks : List ℕ) (x : ℕ) → OneOf ks x → true ≡ is_in x ks
-is_one [] x h = absurd h
-is_one (k ∷ []) x e = rw (eq-eqb x k e)
-is_one (k ∷ j ∷ ks) x (inl e) = rw (eq-eqb x k e)
-is_one (k ∷ j ∷ ks) x (inr h) = rw (← is_one (j ∷ ks) x h, or-true)
-
-pub is_none : (ks : List ℕ) (x : ℕ) → (OneOf ks x → ⊥) → false ≡ is_in x ks
-is_none [] x n = refl
-is_none (k ∷ []) x n = rw (ne_eqb x k n)
-is_none (k ∷ j ∷ ks) x n = rw (ne_eqb x k (λ e. n (inl e))) (is_none (j ∷ ks) x (λ h. n (inr h)))
 
 -- a write at an offset that the kind hasn't got leaves the voice as it is
 
@@ -347,18 +291,7 @@ module _ (k : Kind) where
     pub noise-next-keeps : noise_kind_in_range (next_sample k) ≡ true
     noise-next-keeps = noise-test (noise-next (noise-facts k h))
 
--- what a voice adds to a side
-
-module _ (waves : List ℕ) (volume : ℕ) (v : Voice) where
-  pub heard-silent : v.channel.live.playing ≡ false → (0 ≡ heard waves volume v) × (0 ≤ 1036447)
-  unfolding heard
-  heard-silent p = (rw p, omega arith)
-
-  pub heard-playing : v.channel.live.playing ≡ true → {s x : ℕ} → (x ≡ side v.channel.envelope.level volume s) × (x ≤ 1036447) → s ≡ sample_of waves v.kind → (x ≡ heard waves volume v) × (x ≤ 1036447)
-  unfolding heard
-  heard-playing p e q = (rw (e.0, q, p), e.1)
-
--- and the most that it adds, of waves whose samples are at most 63
+-- the most that a voice adds to a side, of waves whose samples are at most 63
 
 module _ (waves : List ℕ) (w : (i : ℕ) → get_or waves i 0 ≤ 63) where
   at-le : (bank position : ℕ) → sample_at waves bank position ≤ 63

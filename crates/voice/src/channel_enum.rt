@@ -1,4 +1,5 @@
 // A voice: a common record and its kind. The Rust's `ChannelType`.
+
 ghost use Rattle.std.specs.Prelude.{◌≡◌, ◌≤◌};
 ghost use Rattle.voice.specs.ChannelEnum.{stop_voice, is_tap, tap_of, wave_write, noise_write, kind_write, voice_write, period_of, frequency_of, clocked, next_sample, step_auto_stop, step_frequency, step_envelope, step_sweep, is_in, common_offsets, has_offset, sample_of, heard, wave_in_range, swept_in_range, noise_in_range};
 
@@ -47,70 +48,59 @@ const TAPS: [u8; 8] = [14, 10, 13, 4, 8, 6, 9, 11];
 fn tap_bit(value: u8) -> u8
     ensures { result ≡ tap_of value }
 {
-    let code = bits::field(value, 4, 3) as usize;
+    let code = usize::from(bits::field(value, 4, 3));
     TAPS[code]
 }
 
 pub fn is_tap(t: u32) -> bool
     ensures { result ≡ is_tap t }
 {
-    let mut i = 0;
-    while i < 8 {
-        if TAPS[i] as u32 == t {
-            return true;
-        }
-        i += 1;
-    }
-    false
+    TAPS.iter().any(|&tap| t == u32::from(tap))
 }
 
-fn wave_set_u8(bank: u8, position: u8, offset: u32, value: u8) -> Reading
-    ensures { result ≡ wave_write offset value bank position }
+#[tactic(auto, unfolding(crate::specs::ChannelEnum::wave_write))]
+fn wave_set_u8(reading: Reading, offset: u32, value: u8) -> Reading
+    ensures { result ≡ wave_write offset value reading.bank reading.position }
 {
     match offset {
         0x00 => Reading {
-            bank: bank,
             position: 0,
+            ..reading
         },
         0x18 => Reading {
             bank: bits::field(value, 0, 3),
-            position: position,
+            ..reading
         },
-        _ => Reading {
-            bank: bank,
-            position: position,
-        },
+        _ => reading,
     }
 }
 
+#[tactic(auto, unfolding(crate::specs::ChannelEnum::noise_write))]
 fn noise_set_u8(shift: u16, tap: u8, output: bool, offset: u32, value: u8) -> Kind
     ensures { result ≡ noise_write offset value shift tap output }
 {
     match offset {
         0x00 => Kind::Noise {
             shift: 0,
-            tap: tap,
+            tap,
             output: false,
         },
         0x14 => Kind::Noise {
-            shift: shift,
+            shift,
             tap: tap_bit(value),
-            output: output,
+            output,
         },
-        _ => Kind::Noise {
-            shift: shift,
-            tap: tap,
-            output: output,
-        },
+        _ => Kind::Noise { shift, tap, output },
     }
 }
 
+#[tactic(auto, unfolding(crate::specs::ChannelEnum::kind_write))]
 fn kind_set_u8(kind: Kind, offset: u32, value: u8) -> Kind
     ensures { result ≡ kind_write offset value kind }
 {
     match kind {
         Kind::Wave { bank, position } => {
-            let r = wave_set_u8(bank, position, offset, value);
+            let r = wave_set_u8(Reading { bank, position }, offset, value);
             Kind::Wave {
                 bank: r.bank,
                 position: r.position,
@@ -121,7 +111,7 @@ fn kind_set_u8(kind: Kind, offset: u32, value: u8) -> Kind
             position,
             sweep,
         } => {
-            let r = wave_set_u8(bank, position, offset, value);
+            let r = wave_set_u8(Reading { bank, position }, offset, value);
             Kind::Swept {
                 bank: r.bank,
                 position: r.position,
@@ -141,6 +131,7 @@ pub fn stop_voice(v: Voice) -> Voice
     w
 }
 
+#[tactic(auto, unfolding(crate::specs::ChannelEnum::voice_write))]
 pub fn set_u8(v: Voice, offset: u32, value: u8) -> Voice
     ensures { result ≡ voice_write offset value v }
 {
@@ -155,77 +146,43 @@ pub fn set_u8(v: Voice, offset: u32, value: u8) -> Voice
 fn is_common(offset: u32) -> bool
     ensures { result ≡ is_in offset common_offsets }
 {
-    match offset {
-        0x00 | 0x04 | 0x08 | 0x0C | 0x10 | 0x14 => true,
-        _ => false,
-    }
+    matches!(offset, 0x00 | 0x04 | 0x08 | 0x0C | 0x10 | 0x14)
 }
 
 // Whether a channel of this kind has a register there: what the matches of `set_u8` have an arm for.
+#[tactic(auto, unfolding(crate::specs::ChannelEnum::offsets_of))]
 pub fn has_offset(kind: Kind, offset: u32) -> bool
     ensures { result ≡ has_offset offset kind }
 {
     let common = is_common(offset);
     match kind {
-        Kind::Wave {
-            bank: _,
-            position: _,
-        } => (offset == 0x18) | common,
-        Kind::Swept {
-            bank: _,
-            position: _,
-            sweep: _,
-        } => (offset == 0x1C) | ((offset == 0x18) | common),
-        Kind::Noise {
-            shift: _,
-            tap: _,
-            output: _,
-        } => common,
+        Kind::Wave { .. } => (offset == 0x18) | common,
+        Kind::Swept { .. } => (offset == 0x1C) | ((offset == 0x18) | common),
+        Kind::Noise { .. } => common,
     }
 }
 
+#[tactic(auto, unfolding(crate::specs::ChannelEnum::period_of))]
 pub fn cycles_per_frequency_tick(kind: Kind) -> u32
     ensures { result ≡ period_of kind }
 {
     match kind {
-        Kind::Wave {
-            bank: _,
-            position: _,
-        } => WAVE_CHANNEL_BASE_FREQUENCY_CYCLE_COUNT,
-        Kind::Swept {
-            bank: _,
-            position: _,
-            sweep: _,
-        } => WAVE_CHANNEL_BASE_FREQUENCY_CYCLE_COUNT,
-        Kind::Noise {
-            shift: _,
-            tap: _,
-            output: _,
-        } => NOISE_CHANNEL_BASE_FREQUENCY_CYCLE_COUNT,
+        Kind::Wave { .. } | Kind::Swept { .. } => WAVE_CHANNEL_BASE_FREQUENCY_CYCLE_COUNT,
+        Kind::Noise { .. } => NOISE_CHANNEL_BASE_FREQUENCY_CYCLE_COUNT,
     }
 }
 
+#[tactic(auto, unfolding(crate::specs::ChannelEnum::frequency_of))]
 pub fn frequency(kind: Kind, written: u16) -> u16
     ensures { result ≡ frequency_of written kind }
 {
     match kind {
-        Kind::Wave {
-            bank: _,
-            position: _,
-        } => written,
-        Kind::Swept {
-            bank: _,
-            position: _,
-            sweep,
-        } => sweep.current,
-        Kind::Noise {
-            shift: _,
-            tap: _,
-            output: _,
-        } => written,
+        Kind::Swept { sweep, .. } => sweep.current,
+        Kind::Wave { .. } | Kind::Noise { .. } => written,
     }
 }
 
+#[tactic(auto, unfolding(crate::specs::ChannelEnum::clocked))]
 fn increment_noise(shift: u16, tap: u8) -> Kind
     ensures { result ≡ clocked shift tap }
 {
@@ -235,24 +192,25 @@ fn increment_noise(shift: u16, tap: u8) -> Kind
     if source == tapped {
         Kind::Noise {
             shift: moved + 1,
-            tap: tap,
+            tap,
             output: true,
         }
     } else {
         Kind::Noise {
             shift: moved,
-            tap: tap,
+            tap,
             output: false,
         }
     }
 }
 
+#[tactic(auto, unfolding(crate::specs::ChannelEnum::next_sample))]
 pub fn increment_sample(kind: Kind) -> Kind
     ensures { result ≡ next_sample kind }
 {
     match kind {
         Kind::Wave { bank, position } => Kind::Wave {
-            bank: bank,
+            bank,
             position: (position % 32 + 1) % 32,
         },
         Kind::Swept {
@@ -260,18 +218,15 @@ pub fn increment_sample(kind: Kind) -> Kind
             position,
             sweep,
         } => Kind::Swept {
-            bank: bank,
+            bank,
             position: (position % 32 + 1) % 32,
-            sweep: sweep,
+            sweep,
         },
-        Kind::Noise {
-            shift,
-            tap,
-            output: _,
-        } => increment_noise(shift, tap),
+        Kind::Noise { shift, tap, .. } => increment_noise(shift, tap),
     }
 }
 
+#[tactic(auto, unfolding(crate::specs::ChannelEnum::step_auto_stop))]
 pub fn step_auto_deactivate(v: Voice) -> Voice
     ensures { result ≡ step_auto_stop v }
 {
@@ -307,6 +262,7 @@ pub fn step_sampling_frequency(v: Voice) -> Voice
     w
 }
 
+#[tactic(auto, unfolding(crate::specs::ChannelEnum::step_envelope))]
 pub fn step_envelope(v: Voice) -> Voice
     ensures { result ≡ step_envelope v }
 {
@@ -317,60 +273,44 @@ pub fn step_envelope(v: Voice) -> Voice
     w
 }
 
+#[tactic(auto, unfolding(crate::specs::ChannelEnum::step_sweep_of))]
 pub fn step_sweep_modulate(v: Voice, modulation_data: &[i8; 32]) -> Voice
     ensures { result ≡ step_sweep modulation_data.now v }
 {
-    let kind = v.kind;
-    match kind {
-        Kind::Wave {
-            bank: _,
-            position: _,
-        } => v,
+    match v.kind {
         Kind::Swept {
             bank,
             position,
             sweep,
         } => {
-            let c = v.channel;
-            let t = sweep_modulate::step_lent(sweep, c, modulation_data);
-            let s = t.sweep;
-            let d = t.channel;
+            let t = sweep_modulate::step_lent(sweep, v.channel, modulation_data);
             Voice {
-                channel: d,
+                channel: t.channel,
                 kind: Kind::Swept {
-                    bank: bank,
-                    position: position,
-                    sweep: s,
+                    bank,
+                    position,
+                    sweep: t.sweep,
                 },
             }
         }
-        Kind::Noise {
-            shift: _,
-            tap: _,
-            output: _,
-        } => v,
+        Kind::Wave { .. } | Kind::Noise { .. } => v,
     }
 }
 
+#[tactic(auto, unfolding(crate::specs::ChannelEnum::sample_of))]
 fn output(kind: Kind, waves: &[u8; 160]) -> u8
     ensures { result ≡ sample_of waves.now kind }
 {
     match kind {
-        Kind::Wave { bank, position } => waveform::get_indexed(waves, bank, position),
-        Kind::Swept {
-            bank,
-            position,
-            sweep: _,
-        } => waveform::get_indexed(waves, bank, position),
-        Kind::Noise {
-            shift: _,
-            tap: _,
-            output,
-        } => if output { 63 } else { 0 },
+        Kind::Wave { bank, position } | Kind::Swept { bank, position, .. } => {
+            waveform::get_indexed(waves, bank, position)
+        }
+        Kind::Noise { output, .. } => if output { 63 } else { 0 },
     }
 }
 
 // What a voice adds to the side of which `volume` is the volume. Whatever its bytes, six of them fit a u32.
+#[tactic(auto, unfolding(crate::specs::ChannelEnum::heard))]
 pub fn sample(v: Voice, volume: u8, waves: &[u8; 160]) -> u32
     ensures { (result ≡ heard waves.now volume v) × (result ≤ 1036447) }
 {
@@ -382,70 +322,44 @@ pub fn sample(v: Voice, volume: u8, waves: &[u8; 160]) -> u32
     channel::sample_side(c.envelope.level, volume, output(kind, waves))
 }
 
+#[tactic(auto, unfolding(crate::specs::ChannelEnum::wave_in_range, crate::specs::ChannelEnum::wave_kind_in_range))]
 pub fn wave_in_range(v: Voice) -> bool
     ensures { result ≡ wave_in_range v }
 {
-    let c = v.channel;
-    let k = v.kind;
-    match k {
-        Kind::Wave { bank, position } => channel::in_range(c, 3) & ((bank <= 7) & (position <= 31)),
-        Kind::Swept {
-            bank: _,
-            position: _,
-            sweep: _,
-        } => false,
-        Kind::Noise {
-            shift: _,
-            tap: _,
-            output: _,
-        } => false,
+    match v.kind {
+        Kind::Wave { bank, position } => {
+            channel::in_range(v.channel, 3) & ((bank <= 7) & (position <= 31))
+        }
+        _ => false,
     }
 }
 
+#[tactic(auto, unfolding(crate::specs::ChannelEnum::swept_in_range, crate::specs::ChannelEnum::swept_kind_in_range))]
 pub fn swept_in_range(v: Voice) -> bool
     ensures { result ≡ swept_in_range v }
 {
-    let c = v.channel;
-    let k = v.kind;
-    match k {
-        Kind::Wave {
-            bank: _,
-            position: _,
-        } => false,
+    match v.kind {
         Kind::Swept {
             bank,
             position,
             sweep,
         } => {
-            channel::in_range(c, 3)
+            channel::in_range(v.channel, 3)
                 & ((bank <= 7) & (position <= 31) & sweep_modulate::in_range(sweep))
         }
-        Kind::Noise {
-            shift: _,
-            tap: _,
-            output: _,
-        } => false,
+        _ => false,
     }
 }
 
+#[tactic(auto, unfolding(crate::specs::ChannelEnum::noise_in_range, crate::specs::ChannelEnum::noise_kind_in_range))]
 pub fn noise_in_range(v: Voice) -> bool
     ensures { result ≡ noise_in_range v }
 {
-    let c = v.channel;
-    let k = v.kind;
-    match k {
-        Kind::Wave {
-            bank: _,
-            position: _,
-        } => false,
-        Kind::Swept {
-            bank: _,
-            position: _,
-            sweep: _,
-        } => false,
+    match v.kind {
         Kind::Noise { shift, tap, output } => {
-            channel::in_range(c, 39)
-                & ((shift <= 32_767) & is_tap(tap as u32) & (output == (shift % 2 == 1)))
+            channel::in_range(v.channel, 39)
+                & ((shift <= 32_767) & is_tap(u32::from(tap)) & (output == (shift % 2 == 1)))
         }
+        _ => false,
     }
 }
