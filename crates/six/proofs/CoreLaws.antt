@@ -1,5 +1,5 @@
 -- The cases of the definitions of specs/Core.antt, over plain variables.
-use Rattle.std.specs.Prelude.{◌≡◌, ℕ, zero, suc, ◌+◌, ◌^◌, ◌<◌, ◌≤◌, Bool, true, false, cond, ◌&&◌, eqb, ltb, List, [], ◌∷◌, map, length, get_or, take, drop, set, ℤ}
+use Rattle.std.specs.Prelude.{◌≡◌, ℕ, zero, suc, ◌+◌, ◌^◌, ◌<◌, ◌≤◌, Bool, true, false, cond, ◌&&◌, ◌||◌, eqb, ltb, List, [], ◌∷◌, map, length, get_or, take, set, ℤ}
 use mathlib.Core.Path.{refl, sym, ap, ◌∙◌}
 use mathlib.Core.Bool.{true≢false}
 use mathlib.Core.List.{map-map}
@@ -7,8 +7,9 @@ use native.Mathlib.Nat.{add-suc, add-zero, zero-div}
 use native.Mathlib.Numerals.{add-one}
 use native.Mathlib.Omega.{arith}
 use borrow.Author.Tests.{eqb-true, ltb-true}
-use lib.ListN.{length-map, drop_of_length-le}
-use lib.Seq.{drop-cons, take_all}
+use lib.Seq.{take_all}
+use Rattle.std.proofs.lemmas.List.Recursion.{is_sum_by, same_from_clauses}
+use Rattle.std.specs.List.{list_any, sum_by}
 use Rattle.common.specs.Bits.{bit}
 use Rattle.common.specs.Channel.{channel_write, write_envelope, write_envelope_mode, write_high, write_interval, write_low, write_volumes}
 use Rattle.laws.proofs.Cases.{each}
@@ -21,38 +22,20 @@ use Rattle.six.proofs.Upto.{up_to, up_to-more, up_to_by}
 use Rattle.six.specs.Core.{off_noise, off_swept, off_wave, plays, any_plays, sweep_fifth, voices_after, voices_after_all, total, heard_left, heard_right, sums_of, audible, silenced, silenced_from, unmuted, unmuted_from}
 use Rattle.six.specs.declared.unit.Sums.{Sums}
 
--- whether any voice plays, from the front
-
-module _ (vs : List Voice) (i : ℕ) (d : Voice) (h : i < length vs) where
-  pub plays-here : plays (get_or vs i d) ≡ true → any_plays vs ≡ any_plays (drop i vs) → true ≡ any_plays vs
-  unfolding any_plays
-  plays-here p e = sym (e ∙ rw (drop-cons vs i d h, p))
-
-  pub plays-later : plays (get_or vs i d) ≡ false → any_plays vs ≡ any_plays (drop i vs) → any_plays vs ≡ any_plays (drop (i + 1) vs)
-  unfolding any_plays
-  plays-later p e = e ∙ rw (drop-cons vs i d h, p, add-one i)
-
-pub plays-nowhere : (vs : List Voice) (i : ℕ) → length vs ≤ i → any_plays vs ≡ any_plays (drop i vs) → false ≡ any_plays vs
+-- whether any voice plays, in the library's words
+pub any-plays : (vs : List Voice) → list_any plays vs ≡ any_plays vs
 unfolding any_plays
-plays-nowhere vs i h e = sym (e ∙ rw (drop_of_length-le vs h))
+any-plays = same_from_clauses (list_any plays) any_plays (λ v b. plays v || b) refl (λ _ _. refl) (λ _ _. refl)
 
--- the voices' sum, from the front
+-- the voices' sums, in the library's words
 
-module _ (f : Voice → ℕ) where
-  more : (vs : List Voice) (i : ℕ) (d : Voice) → i < length vs → total (take i (map f vs)) + f (get_or vs i d) ≡ total (take (suc i) (map f vs))
-  more [] i d h = absurd (omega arith)
-  more (v ∷ vs) zero d h = omega arith
-  more (v ∷ vs) (suc i) d h = omega (arith, more vs i d (omega arith))
+summed : (f : Voice → ℕ) (vs : List Voice) (i : ℕ) → length vs ≤ i → {x : ℕ} → x ≡ sum_by f (take i vs) → x ≡ total (map f vs)
+summed f vs i h p =
+    p ∙ ap (sum_by f) (take_all i vs h) ∙ sym (is_sum_by (λ l. total (map f l)) f refl (λ _ _. refl) vs)
 
-  pub sum_more : (vs : List Voice) (i : ℕ) (d : Voice) → i < length vs → {x y : ℕ} → x ≡ total (take i (map f vs)) → y ≡ f (get_or vs i d) → x + y ≡ total (take (i + 1) (map f vs))
-  sum_more vs i d h p q = rw (p, q, add-one i) (more vs i d h)
-
-  sum-all : (vs : List Voice) (i : ℕ) → length vs ≤ i → {x : ℕ} → x ≡ total (take i (map f vs)) → x ≡ total (map f vs)
-  sum-all vs i h p = p ∙ ap total (take_all i (map f vs) (rw (length-map vs f) h))
-
-pub sums-are : (waves : List ℕ) (vs : List Voice) (i : ℕ) → length vs ≤ i → {x y : ℕ} → x ≡ total (take i (map (heard_left waves) vs)) → y ≡ total (take i (map (heard_right waves) vs)) → ◌≡◌ {A = Sums} (record { left = x; right = y }) (sums_of waves vs)
+pub sums-are : (waves : List ℕ) (vs : List Voice) (i : ℕ) → length vs ≤ i → {x y : ℕ} → x ≡ sum_by (heard_left waves) (take i vs) → y ≡ sum_by (heard_right waves) (take i vs) → ◌≡◌ {A = Sums} (record { left = x; right = y }) (sums_of waves vs)
 unfolding sums_of
-sums-are waves vs i h p q = λ j. record { left = sum-all (heard_left waves) vs i h p j; right = sum-all (heard_right waves) vs i h q j }
+sums-are waves vs i h p q = λ j. record { left = summed (heard_left waves) vs i h p j; right = summed (heard_right waves) vs i h q j }
 
 -- steps 1 to 3
 

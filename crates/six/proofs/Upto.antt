@@ -49,3 +49,10 @@ module _ {A : Type 0} (f : A → A) where
 
   pub up_to-all : {m : List A} (l : List A) {j : ℕ} → m ≡ up_to j l → length l ≤ j → m ≡ map f l
   up_to-all l {j} e h = e ∙ all j 0 l h
+
+-- A list each of whose elements is f of that of another.
+pub map-is : {A B : Type 0} (f : A → B) (xs : List A) (ys : List B) → length ys ≡ length xs → ((i : ℕ) (d : A) (e : B) → i < length xs → get_or ys i e ≡ f (get_or xs i d)) → ys ≡ map f xs
+map-is f [] [] l h = refl
+map-is f [] (y ∷ ys) l h = absurd (omega arith)
+map-is f (x ∷ xs) [] l h = absurd (omega arith)
+map-is {B = B} f (x ∷ xs) (y ∷ ys) l h = rw (h 0 x y (omega arith)) (ap (λ (t : List B). f x ∷ t) (map-is f xs ys (omega arith) (λ i d e k. h (suc i) d e (omega arith))))

@@ -44,9 +44,9 @@ fn new_channel() -> Channel
         looped: false,
     };
     Channel {
-        live: live,
-        pitch: pitch,
-        envelope: envelope,
+        live,
+        pitch,
+        envelope,
         left: 0,
         right: 0,
     }
@@ -55,8 +55,7 @@ fn new_channel() -> Channel
 fn new_pcm_ch5() -> Voice
     ensures { result ≡ off_swept }
 {
-    let c = new_channel();
-    let s = SweepModulate {
+    let sweep = SweepModulate {
         step: 0,
         last: 0,
         current: 0,
@@ -72,11 +71,11 @@ fn new_pcm_ch5() -> Voice
         up: false,
     };
     Voice {
-        channel: c,
+        channel: new_channel(),
         kind: Kind::Swept {
             bank: 0,
             position: 0,
-            sweep: s,
+            sweep,
         },
     }
 }
@@ -85,9 +84,9 @@ fn new_pcm_ch5() -> Voice
 pub fn new() -> [Voice; 6]
     ensures { result ≡ off_voices }
 {
-    let c = new_channel();
+    let channel = new_channel();
     let wave = Voice {
-        channel: c,
+        channel,
         kind: Kind::Wave {
             bank: 0,
             position: 0,
@@ -95,7 +94,7 @@ pub fn new() -> [Voice; 6]
     };
     let swept = new_pcm_ch5();
     let noise = Voice {
-        channel: c,
+        channel,
         kind: Kind::Noise {
             shift: 0,
             tap: 14,
@@ -108,70 +107,38 @@ pub fn new() -> [Voice; 6]
 pub fn playback_occuring(voices: [Voice; 6]) -> bool
     ensures { result ≡ any_plays voices }
 {
-    let mut i = 0;
-    while i < 6 {
-        let v = voices[i];
-        if v.channel.live.playing {
-            return true;
-        }
-        i += 1;
-    }
-    false
+    voices.iter().any(|v| v.channel.live.playing)
 }
 
 pub fn stop_all(voices: [Voice; 6]) -> [Voice; 6]
     ensures { result ≡ map stop_voice voices }
 {
-    let mut out = voices;
-    let mut i = 0;
-    while i < 6 {
-        let v = out[i];
-        out[i] = channel_enum::stop_voice(v);
-        i += 1;
-    }
-    out
+    voices.map(channel_enum::stop_voice)
 }
 
-// Steps 1 to 3 of a cycle: each voice is fetched once. Not a loop: with the three steps in it the compiler finds it too large to unroll, and
-// then copies each voice through memory. A voice's steps are three calls for the same reason (docs/PERFORMANCE.md).
+// Steps 1 to 3 of a cycle: each voice is fetched once. Neither a loop nor `voices.map(..)`, with which a cycle takes 215 ns in place of 26: the
+// three steps are too large to unroll, and each voice then goes through memory. A voice's steps are three calls for the same reason
+// (docs/PERFORMANCE.md).
 fn step_voices(voices: [Voice; 6]) -> [Voice; 6]
     ensures { result ≡ map (λ v. step_envelope (step_frequency (step_auto_stop v))) voices }
 {
     let mut out = voices;
-    let mut v = out[0];
-    v = step_auto_deactivate(v);
-    v = step_sampling_frequency(v);
-    out[0] = step_envelope(v);
-    v = out[1];
-    v = step_auto_deactivate(v);
-    v = step_sampling_frequency(v);
-    out[1] = step_envelope(v);
-    v = out[2];
-    v = step_auto_deactivate(v);
-    v = step_sampling_frequency(v);
-    out[2] = step_envelope(v);
-    v = out[3];
-    v = step_auto_deactivate(v);
-    v = step_sampling_frequency(v);
-    out[3] = step_envelope(v);
-    v = out[4];
-    v = step_auto_deactivate(v);
-    v = step_sampling_frequency(v);
-    out[4] = step_envelope(v);
-    v = out[5];
-    v = step_auto_deactivate(v);
-    v = step_sampling_frequency(v);
-    out[5] = step_envelope(v);
+    out[0] = step_envelope(step_sampling_frequency(step_auto_deactivate(out[0])));
+    out[1] = step_envelope(step_sampling_frequency(step_auto_deactivate(out[1])));
+    out[2] = step_envelope(step_sampling_frequency(step_auto_deactivate(out[2])));
+    out[3] = step_envelope(step_sampling_frequency(step_auto_deactivate(out[3])));
+    out[4] = step_envelope(step_sampling_frequency(step_auto_deactivate(out[4])));
+    out[5] = step_envelope(step_sampling_frequency(step_auto_deactivate(out[5])));
     out
 }
 
 // Step 4, at channel 5.
+#[tactic(auto, unfolding(crate::specs::Core::sweep_fifth))]
 fn step_sweep_modulate(voices: [Voice; 6], modulation: &[i8; 32]) -> [Voice; 6]
     ensures { result ≡ sweep_fifth modulation.now voices }
 {
     let mut out = voices;
-    let v = out[4];
-    out[4] = channel_enum::step_sweep_modulate(v, modulation);
+    out[4] = channel_enum::step_sweep_modulate(out[4], modulation);
     out
 }
 
@@ -189,11 +156,10 @@ pub fn cycles(voices: [Voice; 6], modulation: &[i8; 32], n: u32) -> [Voice; 6]
     ensures { result ≡ voices_after_all modulation.now n voices }
 {
     let mut out = voices;
-    let mut i = 0;
-    while i < n {
+    for _ in 0..n {
+        // by way of a local: of `out = cycle(..)`, a result laid in a local that holds an array, no proof is generated
         let next = cycle(out, modulation);
         out = next;
-        i += 1;
     }
     out
 }
@@ -212,11 +178,8 @@ pub fn silenced(voices: [Voice; 6], mutes: u8) -> [Voice; 6]
     ensures { result ≡ silenced mutes voices }
 {
     let mut out = voices;
-    let mut i = 0;
-    while i < 6 {
-        let v = out[i];
-        out[i] = audible(v, mutes, i as u8);
-        i += 1;
+    for i in 0..6 {
+        out[i] = audible(out[i], mutes, i as u8);
     }
     out
 }
@@ -227,29 +190,19 @@ pub fn mix(voices: [Voice; 6], waves: &[u8; 160]) -> Sums
 {
     let mut left = 0;
     let mut right = 0;
-    let mut i = 0;
-    while i < 6 {
-        let v = voices[i];
+    for &v in &voices {
         left += channel_enum::sample(v, v.channel.left, waves);
         right += channel_enum::sample(v, v.channel.right, waves);
-        i += 1;
     }
-    Sums {
-        left: left,
-        right: right,
-    }
+    Sums { left, right }
 }
 
 // The range rules of the six.
+#[tactic(auto, unfolding(crate::specs::Core::voices_in_range))]
 pub fn in_range(voices: [Voice; 6]) -> bool
     ensures { result ≡ voices_in_range voices }
 {
-    let a = voices[0];
-    let b = voices[1];
-    let c = voices[2];
-    let d = voices[3];
-    let e = voices[4];
-    let f = voices[5];
+    let [a, b, c, d, e, f] = voices;
     channel_enum::wave_in_range(a)
         & channel_enum::wave_in_range(b)
         & channel_enum::wave_in_range(c)
