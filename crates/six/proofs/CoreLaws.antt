@@ -68,13 +68,6 @@ cycles-add m n (suc k) vs = rw add-suc (ap (voices_after m) (cycles-add m n k vs
 
 -- mutes
 
-module _ (mutes k : ℕ) (v : Voice) {p : Bool} (e : p ≡ bit k mutes) where
-  pub muted : p ≡ true → {w : Voice} → w ≡ stop_voice v → w ≡ audible mutes k v
-  muted t q = q ∙ rw (← e, t)
-
-  pub not-muted : p ≡ false → v ≡ audible mutes k v
-  not-muted t = rw (← e, t)
-
 -- a voice that is stopped adds nothing
 stopped-adds : (waves : List ℕ) (volume : ℕ) (v : Voice) → heard waves volume (stop_voice v) ≡ 0
 unfolding heard
