@@ -1,20 +1,19 @@
 -- Laws of specs/Table.antt.
-use Prim.Native.Nat.{ℕ, zero, suc, ◌+◌, ◌-◌, ◌*◌, ◌/◌, ◌%◌, ◌^◌, ◌<◌, ◌≤◌}
+use Prim.Native.Nat.{ℕ, zero, suc, ◌+◌, ◌-◌, ◌*◌, ◌/◌, ◌%◌, ◌<◌, ◌≤◌}
 use mathlib.Core.Path.{◌≡◌, refl, sym, ap, subst, ◌∙◌}
 use mathlib.Core.Bool.{Bool, true, false, ◌&&◌}
 use mathlib.Core.List.{List, [], ◌∷◌}
 use native.Mathlib.Decide.{ℕ_discrete}
-use native.Mathlib.Nat.{div-le_self, le_refl, le_trans, mod-lt, mul-le-mul}
+use native.Mathlib.Nat.{div-le_self, le_refl, le_trans, mul-le-mul}
 use native.Mathlib.Numerals.{add-one}
 use native.Mathlib.Omega.{arith}
 use borrow.Author.Tests.{eqb-true, lt-ltb, le-ltb, leb-true, ltb-false}
 use lib.Dec.{eqb, leb, ltb}
-use lib.ListN.{get_or, drop, drop_of_length-le, length}
+use lib.ListN.{get_or, drop, take, drop_of_length-le, length}
 use lib.Seq.{drop-cons}
 use Rattle.laws.proofs.Cases.{each, neither, ways}
 use Rattle.little.specs.Little.{size_of}
-use Rattle.little.specs.declared.Width.{Width}
-use Rattle.table.specs.Table.{Edition, broken_by, cell_at, cell_count, cells_of, field_count, field_faulty, known_edition, first_field, made_of, most_in, newest, no_cell, no_part, offset_in, own_of, part_in, part_of, part_offset, part_size, parts_of, row_in, width_in, width_of}
+use Rattle.table.specs.Table.{Edition, broken_by, cell_at, cell_count, cells_of, field_count, field_faulty, known_edition, first_field, made_of, most_in, newest, no_cell, no_part, offset_in, own_of, part_in, part_of, part_offset, part_size, parts_of, row_in, width_in}
 use Rattle.table.specs.declared.Block.{Block}
 use Rattle.table.specs.declared.Block.TheVariants.{Edition1, Edition2, Header, Sample, Entry, Wave, Noise, Sweep, Zero, Mutes}
 use Rattle.table.specs.declared.Cell.{Cell}
@@ -36,6 +35,11 @@ module _ (field : ℕ) (p : Part) (qs : List Part) (k : ℕ) (h : k < length qs)
   unfolding part_in
   part-later l = rw (drop-cons qs k no_part h, le-ltb _ _ l, add-one k)
 
+pub part-first : (e : Known) (field : ℕ) → part_of (parts_of e) field ≡ part_in field (get_or (parts_of e) 0 no_part) (take 7 (drop 1 (parts_of e)))
+unfolding part_of
+part-first First field = refl
+part-first Second field = refl
+
 pub part-last : (field : ℕ) (p : Part) (qs : List Part) (k : ℕ) {q : Part} → length qs ≤ k → q ≡ part_in field p (drop k qs) → p ≡ q
 unfolding part_in
 part-last field p qs k h e = sym (e ∙ rw (drop_of_length-le qs {i = k} h))
@@ -47,12 +51,10 @@ pub record Sound (field : ℕ) (p : Part) : Type 0 where
   pub offset : part_offset p ≤ 418
   pub size : part_size p ≤ 32
   pub some : 0 < cell_count p
-  pub cells : cell_count p ≡ length (cells_of (made_of p))
-  pub few : cell_count p ≤ 19
 
 abbrev sound_part : Part → Bool
 sound_part p =
-    leb (part_offset p) 418 && leb (part_size p) 32 && leb 1 (cell_count p) && eqb (cell_count p) (length (cells_of (made_of p))) && leb (cell_count p) 19
+    leb (part_offset p) 418 && leb (part_size p) 32 && leb 1 (cell_count p)
 
 abbrev every_part : List Part → Bool
 every_part [] = true
@@ -60,15 +62,13 @@ every_part (p ∷ ps) = sound_part p && every_part ps
 
 sound : (field : ℕ) (p : Part) → first_field p ≤ field → sound_part p ≡ true → Sound field p
 sound field p h t =
-    each (leb (part_offset p) 418) (leb (part_size p) 32 ∷ leb 1 (cell_count p) ∷ eqb (cell_count p) (length (cells_of (made_of p))) ∷ leb (cell_count p) 19 ∷ []) t
+    each (leb (part_offset p) 418) (leb (part_size p) 32 ∷ leb 1 (cell_count p) ∷ []) t
     (λ k.
     record {
       begins = h;
       offset = leb-true _ _ k.0;
       size = leb-true _ _ k.1.0;
       some = leb-true _ _ k.1.1.0;
-      cells = eqb-true _ _ k.1.1.1.0;
-      few = leb-true _ _ k.1.1.1.1.0;
     })
 
 sound-in : (field : ℕ) (p : Part) (qs : List Part) → Sound field p → every_part qs ≡ true → Sound field (part_in field p qs)
@@ -108,19 +108,12 @@ low-block Sweep = refl
 low-block Zero = refl
 low-block Mutes = refl
 
-pub cell-low : (block : Block) (i : ℕ) {c : Cell} → c ≡ cell_at block i → offset_in c ≤ 30
-unfolding cell_at
-cell-low block i e = rw e (low-at (cells_of block) i no_cell (omega arith) (low-block block))
+pub cell-low : (block : Block) (i : ℕ) → offset_in (get_or (cells_of block) i no_cell) ≤ 30
+cell-low block i = low-at (cells_of block) i no_cell (omega arith) (low-block block)
 
 module _ {field : ℕ} {p : Part} (s : Sound field p) (small : field < 65536) where
   abbrev within : ℕ
   within = field - first_field p
-
-  pub within-fits : within % cell_count p < 2 ^ 64
-  within-fits = omega (arith, mod-lt within s.some, s.few)
-
-  pub within-cells : within % cell_count p < length (cells_of (made_of p))
-  within-cells = omega (arith, mod-lt within s.some, s.cells)
 
   pub repeat-fits : part_size p * (within / cell_count p) ≤ 32 * 65535
   repeat-fits =
@@ -133,9 +126,12 @@ module _ (e : Known) (field : ℕ) {p : Part} (d : p ≡ part_of (parts_of e) fi
   abbrev cell_number : ℕ
   cell_number = (field - first_field p) % cell_count p
 
-  pub row_of : {c : Cell} {w : Width} {o : Own} → c ≡ cell_at (made_of p) cell_number → w ≡ width_of (width_in c) → o ≡ own_of (made_of p) cell_number → ◌≡◌ {A = Row} (record { offset = part_offset p + part_size p * ((field - first_field p) / cell_count p) + offset_in c; width = w; most = most_in c; own = o }) ((known_edition e).rows field)
-  unfolding row_in
-  row_of f g h = rw (h, g, f, d)
+  abbrev place : Cell
+  place = get_or (cells_of (made_of p)) cell_number no_cell
+
+  pub row_of : {o : Own} → o ≡ own_of (made_of p) cell_number → ◌≡◌ {A = Row} (record { offset = part_offset p + part_size p * ((field - first_field p) / cell_count p) + offset_in place; width = width_in place; most = most_in place; own = o }) ((known_edition e).rows field)
+  unfolding row_in cell_at
+  row_of g = rw (g, d)
 
 -- a test of every number below n
 

@@ -1,5 +1,5 @@
 -- "One table of image fields gives each field's offset, width and largest value; tap and output have their own rules besides."
-use Rattle.std.specs.Prelude.{ℕ, ◌+◌, ◌-◌, ◌*◌, ◌/◌, ◌%◌, Bool, false, cond, not, ◌||◌, List, [], ◌∷◌, ◌++◌, eqb, ltb, get_or, drop}
+use Rattle.std.specs.Prelude.{ℕ, ◌+◌, ◌-◌, ◌*◌, ◌/◌, ◌%◌, Bool, false, cond, not, ◌||◌, List, [], ◌∷◌, ◌++◌, eqb, ltb, get_or, drop, length}
 use Rattle.little.specs.declared.Width.{Width}
 use Rattle.little.specs.declared.Width.TheVariants.{U8, U16, U32}
 use Rattle.voice.specs.ChannelEnum.{is_tap}
@@ -13,12 +13,12 @@ use Rattle.table.specs.declared.Own.TheVariants.{None, Exactly, Tap, LowestBit}
 use Rattle.table.specs.declared.Part.{Part}
 use Rattle.table.specs.declared.Row.{Row}
 
--- The fields of each part, as cells: offset in the part, width in bytes, largest value.
+-- The fields of each part, as cells: offset in the part, width, largest value.
 
 abbrev pub offset_in : Cell → ℕ
 offset_in c = c.0
 
-abbrev pub width_in : Cell → ℕ
+abbrev pub width_in : Cell → Width
 width_in c = c.1
 
 abbrev pub most_in : Cell → ℕ
@@ -26,24 +26,24 @@ most_in c = c.2
 
 -- "u16 edition 1"
 abbrev pub number1 : List Cell
-number1 = (0, 2, 1) ∷ []
+number1 = (0, U16, 1) ∷ []
 
 -- 02 (v): "Image edition 2"
 abbrev pub number2 : List Cell
-number2 = (0, 2, 2) ∷ []
+number2 = (0, U16, 2) ∷ []
 
 -- the header's other numbers, at 2: "u16 header length 16, u32 total 420, u16 waves 5, u16 channels 6, u16 channel offset 208, u16 sweep
 -- offset 400"
 abbrev pub header : List Cell
-header = (0, 2, 16) ∷ (2, 4, 420) ∷ (6, 2, 5) ∷ (8, 2, 6) ∷ (10, 2, 208) ∷ (12, 2, 400) ∷ []
+header = (0, U16, 16) ∷ (2, U32, 420) ∷ (6, U16, 5) ∷ (8, U16, 6) ∷ (10, U16, 208) ∷ (12, U16, 400) ∷ []
 
 -- "Waves at 16 (5 × 32)", "wave samples 0..63"
 abbrev pub sample : List Cell
-sample = (0, 1, 63) ∷ []
+sample = (0, U8, 63) ∷ []
 
 -- "modulation at 176": a byte of any value, signed when it is read
 abbrev pub entry : List Cell
-entry = (0, 1, 255) ∷ []
+entry = (0, U8, 255) ∷ []
 
 -- "Channel block, 32 bytes: +0 flags (auto-stop, play, up, envelope on, envelope loop), +1 live interval, +2 its counter, +3 left,
 -- +4 right, +5 level, +6 envelope interval, +7 reload, +8 envelope step, +9 bank or tap, +10 position or output, +11 zero, +12 u16
@@ -53,9 +53,9 @@ entry = (0, 1, 255) ∷ []
 -- shift 0..32,767"; five flags make 31 at most
 abbrev pub channel : ℕ → ℕ → ℕ → ℕ → List Cell
 channel ninth tenth tick shift =
-    (0, 1, 31) ∷ (1, 1, 31) ∷ (2, 1, 31) ∷ (3, 1, 15) ∷ (4, 1, 15) ∷ (5, 1, 15) ∷ (6, 1, 7) ∷ (7, 1, 15) ∷ (8, 1, 7) ∷ (9, 1, ninth)
-    ∷ (10, 1, tenth) ∷ (11, 1, 0) ∷ (12, 2, 2047) ∷ (14, 2, 2047) ∷ (16, 4, 76804) ∷ (20, 4, tick) ∷ (24, 4, 307218) ∷ (28, 2, shift)
-    ∷ (30, 2, 0) ∷ []
+    (0, U8, 31) ∷ (1, U8, 31) ∷ (2, U8, 31) ∷ (3, U8, 15) ∷ (4, U8, 15) ∷ (5, U8, 15) ∷ (6, U8, 7) ∷ (7, U8, 15) ∷ (8, U8, 7) ∷ (9, U8, ninth)
+    ∷ (10, U8, tenth) ∷ (11, U8, 0) ∷ (12, U16, 2047) ∷ (14, U16, 2047) ∷ (16, U32, 76804) ∷ (20, U32, tick) ∷ (24, U32, 307218) ∷ (28, U16, shift)
+    ∷ (30, U16, 0) ∷ []
 
 abbrev pub wave : List Cell
 wave = channel 7 31 3 0
@@ -68,19 +68,19 @@ noise = channel 14 1 39 32767
 -- 0..6, step counter 0..153,608; output counter 0..479"
 abbrev pub sweep : List Cell
 sweep =
-    (0, 1, 31) ∷ (1, 1, 7) ∷ (2, 1, 7) ∷ (3, 1, 6) ∷ (4, 4, 153608) ∷ (8, 1, 31) ∷ (9, 1, 0) ∷ (10, 2, 2047) ∷ (12, 2, 2047)
-    ∷ (14, 2, 2047) ∷ (16, 2, 479) ∷ []
+    (0, U8, 31) ∷ (1, U8, 7) ∷ (2, U8, 7) ∷ (3, U8, 6) ∷ (4, U32, 153608) ∷ (8, U8, 31) ∷ (9, U8, 0) ∷ (10, U16, 2047) ∷ (12, U16, 2047)
+    ∷ (14, U16, 2047) ∷ (16, U16, 479) ∷ []
 
 -- "u16 zero at 418"
 abbrev pub zeros : List Cell
-zeros = (0, 2, 0) ∷ []
+zeros = (0, U16, 0) ∷ []
 
 -- 02 (v): "the bits at byte 418, range 0 to 63, byte 419 zero"
 abbrev pub mutes : List Cell
-mutes = (0, 1, 63) ∷ (1, 1, 0) ∷ []
+mutes = (0, U8, 63) ∷ (1, U8, 0) ∷ []
 
 abbrev pub no_cell : Cell
-no_cell = (0, 0, 0)
+no_cell = (0, U8, 0)
 
 abbrev pub cells_of : Block → List Cell
 cells_of Edition1 = number1
@@ -134,8 +134,7 @@ output_field = 323
 abbrev pub mutes_field : ℕ
 mutes_field = 324
 
--- A part: the number of its first field, its offset, its size, what it is made of, of how many cells; it comes again until the next
--- one begins.
+-- A part: the number of its first field, its offset, its size, what it is made of; it comes again until the next one begins.
 
 abbrev pub first_field : Part → ℕ
 first_field p = p.0
@@ -150,18 +149,18 @@ abbrev pub made_of : Part → Block
 made_of p = p.3
 
 abbrev pub cell_count : Part → ℕ
-cell_count p = p.4
+cell_count p = length (cells_of (made_of p))
 
 -- The same in every edition: the rest of the header; "Waves at 16 (5 × 32), modulation at 176"; channel blocks at 208; sweep at 400.
 abbrev pub common_parts : List Part
 common_parts =
-    (1, 2, 14, Header, 6) ∷ (waves_from, 16, 1, Sample, 1) ∷ (modulation_from, 176, 1, Entry, 1) ∷ (channel_from 0, 208, 32, Wave, 19)
-    ∷ (channel_from 5, 368, 32, Noise, 19) ∷ (sweep_from, 400, 18, Sweep, 11) ∷ []
+    (1, 2, 14, Header) ∷ (waves_from, 16, 1, Sample) ∷ (modulation_from, 176, 1, Entry) ∷ (channel_from 0, 208, 32, Wave)
+    ∷ (channel_from 5, 368, 32, Noise) ∷ (sweep_from, 400, 18, Sweep) ∷ []
 
 -- an edition's parts: its number, the common ones, what its last two bytes hold
 abbrev pub parts_of : Known → List Part
-parts_of First = (0, 0, 2, Edition1, 1) ∷ (common_parts ++ ((mutes_field, 418, 2, Zero, 1) ∷ []))
-parts_of Second = (0, 0, 2, Edition2, 1) ∷ (common_parts ++ ((mutes_field, 418, 2, Mutes, 2) ∷ []))
+parts_of First = (0, 0, 2, Edition1) ∷ (common_parts ++ ((mutes_field, 418, 2, Zero) ∷ []))
+parts_of Second = (0, 0, 2, Edition2) ∷ (common_parts ++ ((mutes_field, 418, 2, Mutes) ∷ []))
 
 abbrev pub field_count : Known → ℕ
 field_count First = 325
@@ -173,13 +172,10 @@ part_in field p [] = p
 part_in field p (q ∷ qs) = cond (ltb field (first_field q)) p (part_in field q qs)
 
 abbrev pub no_part : Part
-no_part = (0, 0, 0, Edition1, 0)
+no_part = (0, 0, 0, Edition1)
 
 unfoldable pub part_of : List Part → ℕ → Part
 part_of parts field = part_in field (get_or parts 0 no_part) (drop 1 parts)
-
-abbrev pub width_of : ℕ → Width
-width_of bytes = cond (eqb bytes 1) U8 (cond (eqb bytes 2) U16 U32)
 
 unfoldable pub row_in : ℕ → Part → Row
 row_in field p =
@@ -188,7 +184,7 @@ row_in field p =
     let c : Cell = cell_at (made_of p) i in
     record {
       offset = part_offset p + part_size p * (n / cell_count p) + offset_in c;
-      width = width_of (width_in c);
+      width = width_in c;
       most = most_in c;
       own = own_of (made_of p) i;
     }

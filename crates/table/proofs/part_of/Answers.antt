@@ -1,25 +1,17 @@
-use mathlib.Core.Path.{refl, sym, ◌∙◌}
-use native.Mathlib.Omega.{arith}
-use borrow.Author.Rules.{rules}
-use Rattle.table.specs.Table.{part_in, part_of}
+use Rattle.std.proofs.Common.{sym, ◌∙◌, rules, arith}
 use Rattle.table.proofs.TableLaws as laws
 use Rattle.table.proofs.part_of.Goals as goal
 
-pub loop-k-init : goal.loop-k-init
-unfolding part_in part_of
-loop-k-init c = (search rules, search rules, refl)
+pub loop-next-init : goal.loop-next-init
+loop-next-init c = rw c.parts_of-parts.ensures (laws.part-first c.args.edition c.args.field)
 
 pub returns-then-field-first : goal.returns-then-field-first
 returns-then-field-first c =
-    let l = c.loop-k in
-    sym (laws.part-here _ l.p _ l.k (search rules) c.if-field-first.true) ∙ sym l.invariant.2 ∙ rw c.parts_of-parts.ensures
+    sym (c.loop-next.invariant ∙ laws.part-here _ c.loop-next.p _ c.loop-next.next-index (search rules) c.if-field-first.true)
 
-pub loop-k-preserved : goal.loop-k-preserved
-loop-k-preserved c =
-    let l = c.loop-k in
-    (search rules, search rules, l.invariant.2 ∙ laws.part-later _ l.p _ l.k (search rules) c.if-field-first.false)
+pub loop-next-preserved : goal.loop-next-preserved
+loop-next-preserved c =
+    c.loop-next.invariant ∙ laws.part-later _ c.loop-next.p _ c.loop-next.next-index (search rules) c.if-field-first.false
 
 pub returns : goal.returns
-returns c =
-    let l = c.loop-k in
-    laws.part-last _ l.p _ l.k (omega (arith, l.invariant.1, c.loop-k-test.false)) l.invariant.2 ∙ rw c.parts_of-parts.ensures
+returns c = laws.part-last _ c.loop-next.p _ c.loop-next.next-index (omega arith) c.loop-next.invariant
