@@ -1,108 +1,68 @@
 // A state as the values of its fields, and back.
 #![tactic(auto)]
 
-ghost use Rattle.std.specs.Prelude.{◌≡◌, ◌+◌, ◌*◌, ◌<◌, ◌≤◌, map, length, take, drop, slice_index};
+ghost use Rattle.std.specs.Prelude.{◌≡◌, ◌+◌, ◌≤◌, map, length, take, drop, slice_index};
 ghost use Rattle.std.proofs.lemmas.List.Edits.{sets};
-ghost use Rattle.table.specs.Table.{channel_fields, channel_from, modulation_from, newest, sweep_from, waves_from};
-ghost use Rattle.fields.specs.Fields.{bit_of, flags_of, byte_of, ninth_of, tenth_of, shift_of, voice_fields, blocks_of, tail_fields, header_fields, fields_of, live_by, pitch_by, envelope_by, channel_by, sweep_by, wave_by, swept_by, noise_by, from, voices_by, state_of, byte, half, entry_by};
+ghost use Rattle.table.specs.Table.{channel_from, modulation_from, newest, sweep_from, waves_from};
+ghost use Rattle.fields.specs.Fields.{flags_of, byte_of, ninth_of, tenth_of, shift_of, voice_fields, blocks_of, tail_fields, header_fields, fields_of, live_by, pitch_by, envelope_by, channel_by, sweep_by, wave_by, swept_by, noise_by, from, voices_by, state_of, byte, half, entry_by};
 
 use common::bits;
 use common::channel::{Channel, Envelope, Live, Pitch};
 use sweep::sweep_modulate::SweepModulate;
-use table::{
-    CHANNEL_FIELDS, CHANNELS, FIELDS, MODULATION, MUTES, NEWEST, NOISE, OUTPUT, SWEEP, WAVES,
-};
+use table::{CHANNEL_FIELDS, CHANNELS, FIELDS, MODULATION, MUTES, NEWEST, OUTPUT, SWEEP, WAVES};
 use voice::channel_enum::{Kind, Voice};
 use vsu::unit::Vsu;
-
-fn wide8(x: u8) -> u32
-    ensures { result ≡ x }
-{
-    x as u32
-}
-
-fn wide16(x: u16) -> u32
-    ensures { result ≡ x }
-{
-    x as u32
-}
-
-fn bit_of(b: bool) -> u8
-    ensures { result ≡ bit_of b }
-{
-    if b { 1 } else { 0 }
-}
 
 fn flags(a: bool, b: bool, c: bool, d: bool, e: bool) -> u32
     ensures { result ≡ flags_of a b c d e }
 {
-    wide8(bit_of(a) | (bit_of(b) << 1) | (bit_of(c) << 2) | (bit_of(d) << 3) | (bit_of(e) << 4))
+    u32::from(
+        u8::from(a)
+            | (u8::from(b) << 1)
+            | (u8::from(c) << 2)
+            | (u8::from(d) << 3)
+            | (u8::from(e) << 4),
+    )
 }
 
 // A modulation entry's byte.
 fn byte_of(entry: i8) -> u32
     ensures { result ≡ byte_of entry }
 {
-    wide16(bits::addend(entry) % 256)
+    u32::from(bits::addend(entry) % 256)
 }
 
+#[tactic(auto, unfolding(crate::specs::Fields::ninth_of))]
 fn ninth(k: Kind) -> u8
     ensures { result ≡ ninth_of k }
 {
     match k {
-        Kind::Wave { bank, position: _ } => bank,
-        Kind::Swept {
-            bank,
-            position: _,
-            sweep: _,
-        } => bank,
-        Kind::Noise {
-            shift: _,
-            tap,
-            output: _,
-        } => tap,
+        Kind::Wave { bank, .. } | Kind::Swept { bank, .. } => bank,
+        Kind::Noise { tap, .. } => tap,
     }
 }
 
+#[tactic(auto, unfolding(crate::specs::Fields::tenth_of))]
 fn tenth(k: Kind) -> u8
     ensures { result ≡ tenth_of k }
 {
     match k {
-        Kind::Wave { bank: _, position } => position,
-        Kind::Swept {
-            bank: _,
-            position,
-            sweep: _,
-        } => position,
-        Kind::Noise {
-            shift: _,
-            tap: _,
-            output,
-        } => bit_of(output),
+        Kind::Wave { position, .. } | Kind::Swept { position, .. } => position,
+        Kind::Noise { output, .. } => u8::from(output),
     }
 }
 
+#[tactic(auto, unfolding(crate::specs::Fields::shift_of))]
 fn shift_of(k: Kind) -> u16
     ensures { result ≡ shift_of k }
 {
     match k {
-        Kind::Wave {
-            bank: _,
-            position: _,
-        } => 0,
-        Kind::Swept {
-            bank: _,
-            position: _,
-            sweep: _,
-        } => 0,
-        Kind::Noise {
-            shift,
-            tap: _,
-            output: _,
-        } => shift,
+        Kind::Noise { shift, .. } => shift,
+        _ => 0,
     }
 }
 
+#[tactic(auto, unfolding(crate::specs::Fields::voice_fields))]
 fn voice_fields(v: Voice) -> [u32; 19]
     ensures { result ≡ voice_fields v }
 {
@@ -113,113 +73,81 @@ fn voice_fields(v: Voice) -> [u32; 19]
     let e = c.envelope;
     [
         flags(l.auto, l.playing, e.up, e.on, e.looped),
-        wide8(l.interval),
-        wide8(l.counter),
-        wide8(c.left),
-        wide8(c.right),
-        wide8(e.level),
-        wide8(e.interval),
-        wide8(e.reload),
-        wide8(e.step),
-        wide8(ninth(k)),
-        wide8(tenth(k)),
+        u32::from(l.interval),
+        u32::from(l.counter),
+        u32::from(c.left),
+        u32::from(c.right),
+        u32::from(e.level),
+        u32::from(e.interval),
+        u32::from(e.reload),
+        u32::from(e.step),
+        u32::from(ninth(k)),
+        u32::from(tenth(k)),
         0,
-        wide16(p.frequency),
-        wide16(p.counter),
+        u32::from(p.frequency),
+        u32::from(p.counter),
         l.tick,
         p.tick,
         e.tick,
-        wide16(shift_of(k)),
+        u32::from(shift_of(k)),
         0,
     ]
 }
 
+#[tactic(auto, unfolding(crate::specs::Fields::tail_fields))]
 fn tail_fields(k: Kind, output: u32, mutes: u32) -> [u32; 13]
     ensures { result ≡ tail_fields k output mutes }
 {
     match k {
-        Kind::Wave {
-            bank: _,
-            position: _,
-        } => [0, 0, 0, 0, 0, 0, 0, 0, 0, 0, output, mutes, 0],
-        Kind::Swept {
-            bank: _,
-            position: _,
-            sweep: s,
-        } => [
+        Kind::Swept { sweep: s, .. } => [
             flags(s.enable, s.looped, s.modulate, s.slow, s.up),
-            wide8(s.interval),
-            wide8(s.shift),
-            wide8(s.counter),
+            u32::from(s.interval),
+            u32::from(s.shift),
+            u32::from(s.counter),
             s.step,
-            wide8(s.index),
+            u32::from(s.index),
             0,
-            wide16(s.last),
-            wide16(s.current),
-            wide16(s.next),
+            u32::from(s.last),
+            u32::from(s.current),
+            u32::from(s.next),
             output,
             mutes,
             0,
         ],
-        Kind::Noise {
-            shift: _,
-            tap: _,
-            output: _,
-        } => [0, 0, 0, 0, 0, 0, 0, 0, 0, 0, output, mutes, 0],
+        _ => [0, 0, 0, 0, 0, 0, 0, 0, 0, 0, output, mutes, 0],
     }
+}
+
+fn header_fields() -> [u32; WAVES]
+    ensures { result ≡ header_fields newest }
+{
+    [0, 1, 2, 3, 4, 5, 6].map(|i| table::row_at(NEWEST, i).most)
+}
+
+fn wave_fields(waves: [u8; 160]) -> [u32; 160]
+    ensures { result ≡ waves }
+{
+    waves.map(u32::from)
+}
+
+fn entry_fields(modulation: [i8; 32]) -> [u32; 32]
+    ensures { result ≡ map byte_of modulation }
+{
+    modulation.map(byte_of)
 }
 
 fn lay(f: &mut [u32; FIELDS], at: usize, values: &[u32])
     requires { at + length values.now ≤ newest.fields }
     ensures { f.new ≡ sets f.old at values.now }
 {
-    let mut i = 0;
-    while i < values.len() {
-        f[at + i] = values[i];
-        i += 1;
-    }
+    f[at..at + values.len()].copy_from_slice(values);
 }
 
-fn lay_header(f: &mut [u32; FIELDS])
-    ensures { f.new ≡ sets f.old 0 (header_fields newest) }
+fn lay_voices(f: &mut [u32; FIELDS], voices: &[Voice; 6])
+    ensures { f.new ≡ sets f.old (channel_from 0) (blocks_of voices.now) }
 {
-    let mut i = 0;
-    while i < WAVES {
-        let r = table::row_at(NEWEST, i as u16);
-        f[i] = r.most;
-        i += 1;
-    }
-}
-
-fn lay_waves(f: &mut [u32; FIELDS], waves: [u8; 160])
-    ensures { f.new ≡ sets f.old waves_from waves }
-{
-    let mut i = 0;
-    while i < 160 {
-        f[WAVES + i] = wide8(waves[i]);
-        i += 1;
-    }
-}
-
-fn lay_modulation(f: &mut [u32; FIELDS], modulation: [i8; 32])
-    ensures { f.new ≡ sets f.old modulation_from (map byte_of modulation) }
-{
-    let mut i = 0;
-    while i < 32 {
-        f[MODULATION + i] = byte_of(modulation[i]);
-        i += 1;
-    }
-}
-
-fn lay_voices(f: &mut [u32; FIELDS], voices: [Voice; 6])
-    ensures { f.new ≡ sets f.old (channel_from 0) (blocks_of voices) }
-{
-    let mut i = 0;
-    while i < 6 {
-        let v = voices[i];
-        let values = voice_fields(v);
-        lay(f, CHANNELS + CHANNEL_FIELDS * i, &values);
-        i += 1;
+    for (i, v) in voices.iter().enumerate() {
+        lay(f, CHANNELS + CHANNEL_FIELDS * i, &voice_fields(*v));
     }
 }
 
@@ -227,136 +155,125 @@ fn lay_voices(f: &mut [u32; FIELDS], voices: [Voice; 6])
 pub fn fields_of(u: Vsu) -> [u32; FIELDS]
     ensures { result ≡ fields_of newest u }
 {
-    let waves = u.waves;
-    let modulation = u.modulation;
-    let voices = u.voices;
-    let v = voices[4];
-    let k = v.kind;
-    let tail = tail_fields(k, u.output, wide8(u.mutes));
     let mut f = [0; FIELDS];
-    lay_header(&mut f);
-    lay_waves(&mut f, waves);
-    lay_modulation(&mut f, modulation);
-    lay_voices(&mut f, voices);
+    lay(&mut f, 0, &header_fields());
+    lay(&mut f, WAVES, &wave_fields(u.waves));
+    lay(&mut f, MODULATION, &entry_fields(u.modulation));
+    lay_voices(&mut f, &u.voices);
+    let tail = tail_fields(u.voices[4].kind, u.output, u32::from(u.mutes));
     lay(&mut f, SWEEP, &tail);
     f
 }
 
 // The low byte of a value.
-fn byte(f: &[u32; FIELDS], i: usize) -> u8
-    requires { i < newest.fields }
-    ensures { result ≡ byte (slice_index f.now i) }
+fn byte(value: u32) -> u8
+    ensures { result ≡ byte value }
 {
-    (f[i] % 256) as u8
+    (value % 256) as u8
 }
 
-fn half(f: &[u32; FIELDS], i: usize) -> u16
-    requires { i < newest.fields }
-    ensures { result ≡ half (slice_index f.now i) }
+fn half(value: u32) -> u16
+    ensures { result ≡ half value }
 {
-    (f[i] % 65_536) as u16
+    (value % 65_536) as u16
 }
 
-fn live_of(f: &[u32; FIELDS], at: usize) -> Live
-    requires { at + channel_fields ≤ newest.fields }
-    ensures { result ≡ live_by (from f.now at) }
+#[tactic(auto, unfolding(crate::specs::Fields::live_by))]
+fn live_of(v: &[u32; CHANNEL_FIELDS]) -> Live
+    ensures { result ≡ live_by (slice_index v.now) }
 {
-    let flags = byte(f, at);
+    let flags = byte(v[0]);
     Live {
-        tick: f[at + 14],
-        interval: byte(f, at + 1),
-        counter: byte(f, at + 2),
+        tick: v[14],
+        interval: byte(v[1]),
+        counter: byte(v[2]),
         auto: bits::flag(flags, 0),
         playing: bits::flag(flags, 1),
     }
 }
 
-fn pitch_of(f: &[u32; FIELDS], at: usize) -> Pitch
-    requires { at + channel_fields ≤ newest.fields }
-    ensures { result ≡ pitch_by (from f.now at) }
+#[tactic(auto, unfolding(crate::specs::Fields::pitch_by))]
+fn pitch_of(v: &[u32; CHANNEL_FIELDS]) -> Pitch
+    ensures { result ≡ pitch_by (slice_index v.now) }
 {
     Pitch {
-        tick: f[at + 15],
-        frequency: half(f, at + 12),
-        counter: half(f, at + 13),
+        tick: v[15],
+        frequency: half(v[12]),
+        counter: half(v[13]),
     }
 }
 
-fn envelope_of(f: &[u32; FIELDS], at: usize) -> Envelope
-    requires { at + channel_fields ≤ newest.fields }
-    ensures { result ≡ envelope_by (from f.now at) }
+#[tactic(auto, unfolding(crate::specs::Fields::envelope_by))]
+fn envelope_of(v: &[u32; CHANNEL_FIELDS]) -> Envelope
+    ensures { result ≡ envelope_by (slice_index v.now) }
 {
-    let flags = byte(f, at);
+    let flags = byte(v[0]);
     Envelope {
-        tick: f[at + 16],
-        interval: byte(f, at + 6),
-        step: byte(f, at + 8),
-        level: byte(f, at + 5),
-        reload: byte(f, at + 7),
+        tick: v[16],
+        interval: byte(v[6]),
+        step: byte(v[8]),
+        level: byte(v[5]),
+        reload: byte(v[7]),
         up: bits::flag(flags, 2),
         on: bits::flag(flags, 3),
         looped: bits::flag(flags, 4),
     }
 }
 
-fn channel_of(f: &[u32; FIELDS], at: usize) -> Channel
-    requires { at + channel_fields ≤ newest.fields }
-    ensures { result ≡ channel_by (from f.now at) }
+#[tactic(auto, unfolding(crate::specs::Fields::channel_by))]
+fn channel_of(v: &[u32; CHANNEL_FIELDS]) -> Channel
+    ensures { result ≡ channel_by (slice_index v.now) }
 {
-    let l = live_of(f, at);
-    let p = pitch_of(f, at);
-    let e = envelope_of(f, at);
     Channel {
-        live: l,
-        pitch: p,
-        envelope: e,
-        left: byte(f, at + 3),
-        right: byte(f, at + 4),
+        live: live_of(v),
+        pitch: pitch_of(v),
+        envelope: envelope_of(v),
+        left: byte(v[3]),
+        right: byte(v[4]),
     }
 }
 
-fn wave_of(f: &[u32; FIELDS], at: usize) -> Voice
-    requires { at + channel_fields ≤ newest.fields }
-    ensures { result ≡ wave_by (from f.now at) }
+#[tactic(auto, unfolding(crate::specs::Fields::wave_by))]
+fn wave_of(v: &[u32; CHANNEL_FIELDS]) -> Voice
+    ensures { result ≡ wave_by (slice_index v.now) }
 {
-    let c = channel_of(f, at);
     Voice {
-        channel: c,
+        channel: channel_of(v),
         kind: Kind::Wave {
-            bank: byte(f, at + 9),
-            position: byte(f, at + 10),
+            bank: byte(v[9]),
+            position: byte(v[10]),
         },
     }
 }
 
-fn noise_of(f: &[u32; FIELDS], at: usize) -> Voice
-    requires { at + channel_fields ≤ newest.fields }
-    ensures { result ≡ noise_by (from f.now at) }
+#[tactic(auto, unfolding(crate::specs::Fields::noise_by))]
+fn noise_of(v: &[u32; CHANNEL_FIELDS]) -> Voice
+    ensures { result ≡ noise_by (slice_index v.now) }
 {
-    let c = channel_of(f, at);
     Voice {
-        channel: c,
+        channel: channel_of(v),
         kind: Kind::Noise {
-            shift: half(f, at + 17),
-            tap: byte(f, at + 9),
-            output: byte(f, at + 10) == 1,
+            shift: half(v[17]),
+            tap: byte(v[9]),
+            output: byte(v[10]) == 1,
         },
     }
 }
 
+#[tactic(auto, unfolding(crate::specs::Fields::sweep_by))]
 fn sweep_of(f: &[u32; FIELDS]) -> SweepModulate
     ensures { result ≡ sweep_by (from f.now sweep_from) }
 {
-    let flags = byte(f, SWEEP);
+    let flags = byte(f[SWEEP]);
     SweepModulate {
         step: f[SWEEP + 4],
-        last: half(f, SWEEP + 7),
-        current: half(f, SWEEP + 8),
-        next: half(f, SWEEP + 9),
-        interval: byte(f, SWEEP + 1),
-        shift: byte(f, SWEEP + 2),
-        counter: byte(f, SWEEP + 3),
-        index: byte(f, SWEEP + 5),
+        last: half(f[SWEEP + 7]),
+        current: half(f[SWEEP + 8]),
+        next: half(f[SWEEP + 9]),
+        interval: byte(f[SWEEP + 1]),
+        shift: byte(f[SWEEP + 2]),
+        counter: byte(f[SWEEP + 3]),
+        index: byte(f[SWEEP + 5]),
         enable: bits::flag(flags, 0),
         looped: bits::flag(flags, 1),
         modulate: bits::flag(flags, 2),
@@ -365,18 +282,16 @@ fn sweep_of(f: &[u32; FIELDS]) -> SweepModulate
     }
 }
 
-fn swept_of(f: &[u32; FIELDS], at: usize) -> Voice
-    requires { at + channel_fields ≤ newest.fields }
-    ensures { result ≡ swept_by (from f.now at) (from f.now sweep_from) }
+#[tactic(auto, unfolding(crate::specs::Fields::swept_by))]
+fn swept_of(v: &[u32; CHANNEL_FIELDS], f: &[u32; FIELDS]) -> Voice
+    ensures { result ≡ swept_by (slice_index v.now) (from f.now sweep_from) }
 {
-    let c = channel_of(f, at);
-    let s = sweep_of(f);
     Voice {
-        channel: c,
+        channel: channel_of(v),
         kind: Kind::Swept {
-            bank: byte(f, at + 9),
-            position: byte(f, at + 10),
-            sweep: s,
+            bank: byte(v[9]),
+            position: byte(v[10]),
+            sweep: sweep_of(f),
         },
     }
 }
@@ -384,53 +299,48 @@ fn swept_of(f: &[u32; FIELDS], at: usize) -> Voice
 fn voices_of(f: &[u32; FIELDS]) -> [Voice; 6]
     ensures { result ≡ voices_by f.now }
 {
-    let v0 = wave_of(f, CHANNELS);
-    let v1 = wave_of(f, CHANNELS + 19);
-    let v2 = wave_of(f, CHANNELS + 38);
-    let v3 = wave_of(f, CHANNELS + 57);
-    let v4 = swept_of(f, CHANNELS + 76);
-    let v5 = noise_of(f, NOISE);
-    [v0, v1, v2, v3, v4, v5]
+    let (blocks, _) = f[CHANNELS..SWEEP].as_chunks();
+    [
+        wave_of(&blocks[0]),
+        wave_of(&blocks[1]),
+        wave_of(&blocks[2]),
+        wave_of(&blocks[3]),
+        swept_of(&blocks[4], f),
+        noise_of(&blocks[5]),
+    ]
 }
 
+// No `array::from_fn`: of the call at an index its `ensures` has any state of the closure, and so not that it still holds f.
 fn waves_of(f: &[u32; FIELDS]) -> [u8; 160]
-    requires { length f.now ≡ newest.fields }
     ensures { result ≡ map byte (take 160 (drop waves_from f.now)) }
 {
     let mut waves = [0; 160];
-    let mut i = 0;
-    while i < 160 {
-        waves[i] = byte(f, WAVES + i);
-        i += 1;
+    for i in 0..160 {
+        waves[i] = byte(f[WAVES + i]);
     }
     waves
 }
 
 fn modulation_of(f: &[u32; FIELDS]) -> [i8; 32]
-    requires { length f.now ≡ newest.fields }
     ensures { result ≡ map entry_by (take 32 (drop modulation_from f.now)) }
 {
     let mut modulation = [0; 32];
-    let mut i = 0;
-    while i < 32 {
-        modulation[i] = bits::signed(byte(f, MODULATION + i));
-        i += 1;
+    for i in 0..32 {
+        modulation[i] = bits::signed(byte(f[MODULATION + i]));
     }
     modulation
 }
 
 // The state that values make.
+#[tactic(auto, unfolding(crate::specs::Fields::state_of))]
 pub fn state_of(f: [u32; FIELDS]) -> Vsu
     ensures { result ≡ state_of f }
 {
-    let voices = voices_of(&f);
-    let waves = waves_of(&f);
-    let modulation = modulation_of(&f);
     Vsu {
-        voices: voices,
+        voices: voices_of(&f),
         output: f[OUTPUT],
-        waves: waves,
-        modulation: modulation,
-        mutes: byte(&f, MUTES),
+        waves: waves_of(&f),
+        modulation: modulation_of(&f),
+        mutes: byte(f[MUTES]),
     }
 }
