@@ -114,10 +114,16 @@ module _ (l : Layout) (b : List ℕ) (count cycle i : ℕ) where
   unfolding writes_from due_before
   count-end h = let z : count - i ≡ 0 = omega arith in rw z
 
-pub earlier-of : (l : Layout) (b : List ℕ) (i : ℕ) → (i ≡ 0 → ⊥) → {d : ℕ} → d ≡ due_at l b (i - 1) → d ≡ due_earlier l b i
-unfolding due_earlier
-earlier-of l b zero n e = absurd (n refl)
-earlier-of l b (suc i) n e = e ∙ ap (due_at l b) (omega arith)
+module _ (l : Layout) (b : List ℕ) where
+  pub earlier-of : (i : ℕ) {k d : ℕ} → (1 ≤ i) × (k ≡ i - 1) → d ≡ due_at l b k → d ≡ due_earlier l b i
+  unfolding due_earlier
+  earlier-of zero h e = absurd (omega (arith, h))
+  earlier-of (suc i) h e = e ∙ ap (due_at l b) (omega (arith, h))
+
+  pub earlier-first : (i : ℕ) → (1 ≤ i → ⊥) → 0 ≡ due_earlier l b i
+  unfolding due_earlier
+  earlier-first zero n = refl
+  earlier-first (suc i) n = absurd (n (omega arith))
 
 -- what stands at a place of the writes
 

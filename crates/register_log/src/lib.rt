@@ -65,21 +65,12 @@ pub fn write_at(log: &[u8], index: u32) -> Write
     }
 }
 
-fn wide(x: u8) -> u32
-    ensures { (result ≡ x) × (result < 256) }
-{
-    x as u32
-}
-
 // The due cycle at a place that is known to be in the log: one load, where `due_at` tests each byte's place.
 fn due_in(log: &[u8], at: usize) -> u32
     requires { at + 3 < length log.now }
     ensures { result ≡ number 4 log.now at }
 {
-    wide(log[at])
-        + 256 * wide(log[at + 1])
-        + 65_536 * wide(log[at + 2])
-        + 16_777_216 * wide(log[at + 3])
+    u32::from_le_bytes([log[at], log[at + 1], log[at + 2], log[at + 3]])
 }
 
 fn check_entries(log: &[u8], count: u32, cycles: u32) -> Checked
@@ -87,20 +78,15 @@ fn check_entries(log: &[u8], count: u32, cycles: u32) -> Checked
     ensures { result ≡ checked_by (entries_answer edition1 log.now cycles count 0) count cycles }
 {
     let mut before = 0;
-    let mut i = 0;
-    while i < count {
+    for i in 0..count {
         let at = entry_place(i);
         let due = due_in(log, at);
         if (log[at + 7] != 0) | (due >= cycles) | (due < before) {
             return Checked::Refused(Refusal::LogEntry(i));
         }
         before = due;
-        i += 1;
     }
-    Checked::Log {
-        count: count,
-        cycles: cycles,
-    }
+    Checked::Log { count, cycles }
 }
 
 // Refusals 3 to 8, or the number of entries and L.
@@ -131,7 +117,7 @@ pub(crate) fn entry_in(log: &[u8], checked: Checked, index: u32) -> Read
     ensures { (result ≡ entry_in edition1 checked log.now index) × Tells (entry_answer result) (checked_answer checked) }
 {
     match checked {
-        Checked::Log { count, cycles: _ } => {
+        Checked::Log { count, .. } => {
             if index < count {
                 return Read::Write(write_at(log, index));
             }
@@ -152,11 +138,8 @@ fn count_due(log: &[u8], count: u32, cycle: u32) -> u32
     ensures { result ≡ due_before (writes_from edition1 log.now count 0) cycle }
 {
     let mut n = 0;
-    let mut i = 0;
-    while i < count {
-        let due = due_at(log, i);
-        i += 1;
-        if due < cycle {
+    for i in 0..count {
+        if due_at(log, i) < cycle {
             n += 1;
         }
     }
@@ -167,9 +150,8 @@ fn count_due(log: &[u8], count: u32, cycle: u32) -> u32
 pub fn due_before(log: &[u8], cycle: u32) -> Counted
     ensures { (result ≡ due_before_of edition1 log.now cycle) × Tells (counted_answer result) (log_answer edition1 log.now) }
 {
-    let c = check_log(log);
-    match c {
-        Checked::Log { count, cycles: _ } => Counted::Number(count_due(log, count, cycle)),
+    match check_log(log) {
+        Checked::Log { count, .. } => Counted::Number(count_due(log, count, cycle)),
         Checked::Refused(why) => Counted::Refused(why),
     }
 }
@@ -178,10 +160,10 @@ pub fn due_before(log: &[u8], cycle: u32) -> Counted
 fn due_earlier(log: &[u8], index: u32) -> u32
     ensures { result ≡ due_earlier edition1 log.now index }
 {
-    if index == 0 {
-        return 0;
+    match index.checked_sub(1) {
+        Some(before) => due_at(log, before),
+        None => 0,
     }
-    due_at(log, index - 1)
 }
 
 // Whether `number` entries of an accepted log of `count` are due before `cycle`, by two reads and no pass.

@@ -4,7 +4,4 @@ use Rattle.register_log.specs.Log.{edition1, due_before, writes_from}
 use Rattle.register_log.proofs.count_due.Given as goal
 
 abbrev pub invariant-loop-i : goal.invariant-loop-i
-invariant-loop-i l = (l.i ≤ l.count) × (l.n ≤ l.i) × (l.n + due_before (writes_from edition1 l.log (l.count - l.i) l.i) l.cycle ≡ due_before (writes_from edition1 l.log l.count 0) l.cycle)
-
-abbrev pub decreases-loop-i : goal.decreases-loop-i
-decreases-loop-i l = l.count - l.i
+invariant-loop-i l = (l.n ≤ l.i) × (l.n + due_before (writes_from edition1 l.log (l.count - l.i) l.i) l.cycle ≡ due_before (writes_from edition1 l.log l.count 0) l.cycle)

@@ -1,11 +1,9 @@
 use Rattle.register_log.proofs.LogLaws as laws
-use mathlib.Core.Path.{refl}
-use Rattle.register_log.specs.Log.{edition1, due_earlier}
+use Rattle.register_log.specs.Log.{edition1}
 use Rattle.register_log.proofs.due_earlier.Goals as goal
 
-pub returns-then-index-eq0 : goal.returns-then-index-eq0
-unfolding due_earlier
-returns-then-index-eq0 c = rw c.if-index-eq0.true refl
+pub returns-in-Some : goal.returns-in-Some
+returns-in-Some c = laws.earlier-of edition1 c.args.log.now c.args.index c.in-Some.ensures c.due_at.ensures
 
-pub returns : goal.returns
-returns c = laws.earlier-of edition1 c.args.log.now c.args.index c.if-index-eq0.false c.due_at.ensures
+pub returns-in-None : goal.returns-in-None
+returns-in-None c = laws.earlier-first edition1 c.args.log.now c.args.index c.in-None.ensures
