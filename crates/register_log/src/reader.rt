@@ -24,7 +24,7 @@ fn place_after(checked: Checked, at: u32) -> u32
     ensures { result ≡ place_after checked at }
 {
     match checked {
-        Checked::Log { count, cycles: _ } => {
+        Checked::Log { count, .. } => {
             if at < count {
                 return at + 1;
             }
@@ -34,42 +34,45 @@ fn place_after(checked: Checked, at: u32) -> u32
     }
 }
 
-// A reader that stands at the log's first entry.
-pub fn new<'a>(log: &'a [u8]) -> Reader<'a>
-    ensures { (result.log ≡ log.entry) × (result.checked ≡ check_of edition1 log.now) × (result.at ≡ 0) }
-{
-    Reader {
-        log,
-        checked: crate::check_log(log),
-        at: 0,
+// No `Iterator`, whose items end: of bytes that are no log `next` answers the refusal each time, as `refuses` of ReaderLaws says.
+impl<'a> Reader<'a> {
+    // A reader that stands at the log's first entry.
+    pub fn new(log: &'a [u8]) -> Reader<'a>
+        ensures { (result.log ≡ log.entry) × (result.checked ≡ check_of edition1 log.now) × (result.at ≡ 0) }
+    {
+        Reader {
+            log,
+            checked: crate::check_log(log),
+            at: 0,
+        }
+    }
+
+    // What stands at the reader's place; of an accepted log that is the write of that number, or that the log has ended.
+    pub fn next(self) -> Read
+        ensures { (result ≡ entry_in edition1 self.entry.checked self.entry.log.now self.entry.at) × ((n k : ℕ) → check_of edition1 self.entry.log.now ≡ Checked.Log n k → self.entry.checked ≡ Checked.Log n k → result ≡ handed (writes_of edition1 self.entry.log.now) self.entry.at) × Tells (entry_answer result) (checked_answer self.entry.checked) }
+    {
+        crate::entry_in(self.log, self.checked, self.at)
+    }
+
+    // The reader at the place after.
+    pub fn moved(self) -> Reader<'a>
+        ensures { (result.log ≡ self.entry.log) × (result.checked ≡ self.entry.checked) × (result.at ≡ place_after self.entry.checked self.entry.at) }
+    {
+        Reader {
+            at: place_after(self.checked, self.at),
+            ..self
+        }
     }
 }
 
-// What stands at the reader's place; of an accepted log that is the write of that number, or that the log has ended.
-pub fn next<'a>(r: Reader<'a>) -> Read
-    ensures { (result ≡ entry_in edition1 r.entry.checked r.entry.log.now r.entry.at) × ((n k : ℕ) → check_of edition1 r.entry.log.now ≡ Checked.Log n k → r.entry.checked ≡ Checked.Log n k → result ≡ handed (writes_of edition1 r.entry.log.now) r.entry.at) × Tells (entry_answer result) (checked_answer r.entry.checked) }
-{
-    crate::entry_in(r.log, r.checked, r.at)
-}
-
-// The reader at the place after.
-pub fn moved<'a>(r: Reader<'a>) -> Reader<'a>
-    ensures { (result.log ≡ r.entry.log) × (result.checked ≡ r.entry.checked) × (result.at ≡ place_after r.entry.checked r.entry.at) }
-{
-    Reader {
-        log: r.log,
-        checked: r.checked,
-        at: place_after(r.checked, r.at),
-    }
-}
-
-// Reads and moves on, by the parts of a reader, which a caller keeps: the log, the answer of its check, and the place.
+// Reads and moves on, by the parts of a reader, which a caller keeps: the log, the answer of its check, and the place. No method: it
+// takes any answer and any place, which a reader outside this crate never holds.
 pub fn read_on(log: &[u8], checked: Checked, at: u32) -> Step
     ensures { (result.read ≡ entry_in edition1 checked log.now at) × ((n k : ℕ) → check_of edition1 log.now ≡ Checked.Log n k → checked ≡ Checked.Log n k → result.read ≡ handed (writes_of edition1 log.now) at) × (result.at ≡ place_after checked at) × Tells (entry_answer result.read) (checked_answer checked) }
 {
     let r = Reader { log, checked, at };
     Step {
-        read: next(r),
-        at: moved(r).at,
+        read: r.next(),
+        at: r.moved().at,
     }
 }
