@@ -18,6 +18,11 @@ pub struct Recorder {
     pub last: u32,
 }
 
+const NONE: Recorder = Recorder {
+    entries: 0,
+    last: 0,
+};
+
 // What a call answers.
 #[derive(Clone, Copy)]
 pub struct Turn {
@@ -45,10 +50,7 @@ fn accepted(entries: u32, last: u32) -> Turn
     ensures { result ≡ record { recorder = record { entries = entries; last = last }; answer = Answer.Accepted } }
 {
     Turn {
-        recorder: Recorder {
-            entries: entries,
-            last: last,
-        },
+        recorder: Recorder { entries, last },
         answer: Answer::Accepted,
     }
 }
@@ -58,13 +60,7 @@ pub fn start(buffer: &mut [u8]) -> Turn
     ensures { (result ≡ (start_of edition1 buffer.old).turn) × (buffer.new ≡ (start_of edition1 buffer.old).buffer) × Tells result.answer (start_answer edition1 (length buffer.old)) }
 {
     if buffer.len() < 16 {
-        return refused(
-            Recorder {
-                entries: 0,
-                last: 0,
-            },
-            Refusal::Room,
-        );
+        return refused(NONE, Refusal::Room);
     }
     accepted(0, 0)
 }
@@ -74,8 +70,8 @@ fn put_entry(buffer: &mut [u8], index: u32, cycle: u32, address: u16, byte: u8)
 {
     let at = register_log::entry_place(index);
     little::put(buffer, at, Width::U32, cycle);
-    little::put(buffer, at + 4, Width::U16, address as u32);
-    little::put(buffer, at + 6, Width::U16, byte as u32); // and the zero behind it
+    little::put(buffer, at + 4, Width::U16, u32::from(address));
+    little::put(buffer, at + 6, Width::U16, u32::from(byte)); // and the zero behind it
 }
 
 // The next entry: a write and the cycle it is due at.

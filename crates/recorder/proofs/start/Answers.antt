@@ -2,11 +2,10 @@ use mathlib.Core.Path.{refl}
 use Rattle.recorder.proofs.RecorderLaws as laws
 use Rattle.register_log.specs.Log.{edition1}
 use lib.ListN.{length}
-use Rattle.recorder.specs.Recorder.{none}
 use Rattle.recorder.proofs.start.Goals as goal
 
 pub returns-then-buffer-lt16 : goal.returns-then-buffer-lt16
-returns-then-buffer-lt16 c = laws.refuses none none c.args.buffer.now c.args.buffer.now (laws.start-short edition1 (length c.args.buffer.now) c.if-buffer-lt16.true) c.refused.ensures
+returns-then-buffer-lt16 c = laws.refuses _ _ _ _ (laws.start-short edition1 (length c.args.buffer.now) c.if-buffer-lt16.true) c.refused.ensures
 
 pub returns : goal.returns
-returns c = laws.takes none none c.args.buffer.now c.args.buffer.now (laws.start-passes edition1 (length c.args.buffer.now) c.if-buffer-lt16.false) c.accepted.ensures refl
+returns c = laws.takes _ _ _ _ (laws.start-passes edition1 (length c.args.buffer.now) c.if-buffer-lt16.false) c.accepted.ensures refl
