@@ -1,15 +1,17 @@
 -- Laws of specs/Text.antt: text laid byte by byte and piece by piece, and how many digits a number has.
-use Prim.Native.Nat.{ℕ, zero, suc, ◌+◌, ◌-◌, ◌/◌, ◌%◌, ◌^◌, ◌<◌, ◌≤◌}
+use Prim.Native.Nat.{ℕ, zero, suc, ◌+◌, ◌-◌, ◌/◌, ◌%◌, ◌^◌, ◌<◌, ◌≤◌, min}
 use mathlib.Core.Path.{◌≡◌, refl, sym, ap, ◌∙◌}
-use mathlib.Core.List.{List, [], ◌∷◌, ◌++◌}
+use mathlib.Core.List.{List, [], ◌∷◌, ◌++◌, append_assoc}
 use native.Mathlib.Decide.{dec_lt}
 use native.Mathlib.Nat.{pow-le-pow_right}
 use native.Mathlib.Numerals.{add-one}
 use native.Mathlib.Omega.{arith}
 use borrow.Author.Tests.{ltb-true, ltb-false}
 use lib.Dec.{ltb, lit<}
-use lib.ListN.{get_or, set, take, length, length-append}
-use lib.Seq.{sets, set_out, length-sets, take-suc, take_all}
+use lib.ListN.{get_or, take, drop, length, length-append}
+use lib.Seq.{sets, sets-eq, length-sets, take-suc, take_all}
+use borrow.Rule.Slice.PartMut.{put_mid}
+use Rattle.std.proofs.lemmas.List.{drop-drop, length-take-le, take-append-drop}
 use Rattle.io.specs.Digits.{last_digits, hex_digit_ascii, IsDigitCount}
 use Rattle.laws.proofs.Cases.{ways}
 use Rattle.little.proofs.LittleLaws.{sets-append, sets-out}
@@ -44,28 +46,28 @@ joined {l} {at} {xs} {ys} {m} {n} {r} {s} f g =
 pub none : (l : List ℕ) (at : ℕ) → Laid l at [] l at
 none l at = record { place = omega arith; held = refl }
 
--- a byte, stored where there is room for it
+-- what a text leaves of which so much is copied as there is room for
 
-pub stored : (m : List ℕ) (r x : ℕ) → r < length m → Laid m r (x ∷ []) (set m r x) (r + 1)
-stored m r x h = record { place = omega arith; held = refl }
+module _ (l xs : List ℕ) (at : ℕ) where
+  cut : (k : ℕ) → k ≡ min (length xs) (length l - at) → sets l at (take k xs) ≡ sets l at xs
+  cut k e = go (dec_lt k (length xs))
+    where
+      front : length (take k xs) ≡ k
+      front = length-take-le k xs (omega (arith, e))
 
-pub full : (m : List ℕ) (r x : ℕ) → length m ≤ r → Laid m r (x ∷ []) m r
-full m r x h = record { place = omega arith; held = sym (set_out m r x h) }
+      go : Dec (k < length xs) → sets l at (take k xs) ≡ sets l at xs
+      go (yes h) =
+          sym (sets-out (sets l at (take k xs)) (at + k) (drop k xs) (omega (arith, e, length-sets l at (take k xs)))) ∙ sets-append l at (take k xs) (drop k xs) (ap (λ (n : ℕ). at + n) front) ∙ ap (sets l at) (take-append-drop k xs)
+      go (no h) = ap (sets l at) (take_all k xs (omega arith))
+
+  pub copied : {k n : ℕ} {ys : List ℕ} → at ≤ length l → k ≡ min (length xs) (length l - at) → n ≡ k → ys ≡ take k xs → put_mid at n l ys ≡ sets l at xs
+  copied {k} h e f g =
+      let p : length (take k xs) ≡ k = length-take-le k xs (omega (arith, e)) in
+      rw (f, g, drop-drop k at l) (sym (append_assoc (take at l) (take k xs) (drop (at + k) l)) ∙ sym (rw p at (sets-eq (take k xs) l at (omega (arith, e, p)))) ∙ cut k e)
 
 -- what a call says that it laid, of an equal text
 pub laid : (l : List ℕ) (at : ℕ) (xs : List ℕ) {ys m : List ℕ} {r : ℕ} → xs ≡ ys → (r ≡ place_behind (length l) at (length xs)) × (m ≡ sets l at xs) → Laid l at ys m r
 laid l at xs e p = rw (← e) (record { place = p.0; held = p.1 })
-
--- a loop that lays a list from its front, each element as a text: a turn of it, and every element laid
-
-module _ (f : List ℕ → List ℕ) (split : (xs ys : List ℕ) → f (xs ++ ys) ≡ f xs ++ f ys) {l : List ℕ} {at : ℕ} (bs : List ℕ) (i : ℕ) where
-  pub turn : i < length bs → {m n : List ℕ} {r s : ℕ} → Laid l at (f (take i bs)) m r → Laid m r (f (get_or bs i 0 ∷ [])) n s → (i + 1 ≤ length bs) × (length n ≡ length l) × Laid l at (f (take (i + 1) bs)) n s
-  turn h {n = n} {s = s} a b =
-      let c : Laid l at (f (take (i + 1) bs)) n s = rw (add-one i, take-suc bs i 0 h, split) (joined a b) in
-      (omega arith, kept c, c)
-
-  pub all : length bs ≤ i → {m : List ℕ} {r : ℕ} → Laid l at (f (take i bs)) m r → (r ≡ place_behind (length l) at (length (f bs))) × (m ≡ sets l at (f bs))
-  all h a = let e : f (take i bs) ≡ f bs = ap f (take_all i bs h) in (rw e at a.place, rw e at a.held)
 
 -- how many digits a number has
 
@@ -120,7 +122,19 @@ hex-is b r h f =
     let e : b / 16 % 16 ≡ b / 16 = omega arith in
     rw (two b r h f) (ap (λ (d : ℕ). hex_digit_ascii d ∷ hex_digit_ascii (b % 16) ∷ []) e)
 
-pub hex-split : (xs ys : List ℕ) → hex_of (xs ++ ys) ≡ hex_of xs ++ hex_of ys
+hex-split : (xs ys : List ℕ) → hex_of (xs ++ ys) ≡ hex_of xs ++ hex_of ys
 unfolding hex_of
 hex-split [] ys = refl
 hex-split (x ∷ xs) ys = ap (λ (l : List ℕ). hex_digit_ascii (x / 16) ∷ hex_digit_ascii (x % 16) ∷ l) (hex-split xs ys)
+
+-- the loop that lays the digits byte by byte: a turn of it, and every byte's laid
+
+module _ {l : List ℕ} {at : ℕ} (bs : List ℕ) (i : ℕ) where
+  pub hex-turn : i < length bs → {m n : List ℕ} {r s : ℕ} → Laid l at (hex_of (take i bs)) m r → Laid m r (hex_of (get_or bs i 0 ∷ [])) n s → (length n ≡ length l) × Laid l at (hex_of (take (i + 1) bs)) n s
+  hex-turn h {n = n} {s = s} a b =
+      let c : Laid l at (hex_of (take (i + 1) bs)) n s = rw (add-one i, take-suc bs i 0 h, hex-split) (joined a b) in
+      (kept c, c)
+
+  pub hex-all : length bs ≤ i → {m : List ℕ} {r : ℕ} → Laid l at (hex_of (take i bs)) m r → (r ≡ place_behind (length l) at (length (hex_of bs))) × (m ≡ sets l at (hex_of bs))
+  hex-all h a =
+      let e : hex_of (take i bs) ≡ hex_of bs = ap hex_of (take_all i bs h) in (rw e at a.place, rw e at a.held)

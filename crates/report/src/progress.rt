@@ -11,7 +11,7 @@ fn percent(done: u32, all: u32) -> u32
     if done >= all {
         return 100;
     }
-    (done as u64 * 100 / all as u64) as u32
+    (u64::from(done) * 100 / u64::from(all)) as u32
 }
 
 // How much is done, in hundredths; told on standard error, where that is a terminal, when it is another number than the last.
@@ -22,7 +22,7 @@ pub fn show(last: u32, done: u32, all: u32, terminals: Terminals) -> u32
     if now != last {
         if terminals.error {
             io::write_all(STDERR_FILENO, b"\r");
-            io::print_decimal(STDERR_FILENO, now as u64);
+            io::print_decimal(STDERR_FILENO, u64::from(now));
             io::write_all(STDERR_FILENO, b"%");
             if now == 100 {
                 io::write_all(STDERR_FILENO, b"\n");

@@ -11,16 +11,12 @@ pub fn words(out: &mut [u8], at: usize, text: &[u8]) -> usize
     ensures value { result ≡ place_behind (length out.old) at (length text.now) }
     ensures out_after { out.new ≡ sets out.old at text.now }
 {
-    let mut next = at;
-    let mut i = 0;
-    while i < text.len() {
-        if next < out.len() {
-            out[next] = text[i];
-            next += 1;
-        }
-        i += 1;
+    if out.len() <= at {
+        return at;
     }
-    next
+    let k = text.len().min(out.len() - at);
+    out[at..at + k].copy_from_slice(&text[..k]);
+    at + k
 }
 
 // A number's decimal digits.
@@ -48,12 +44,10 @@ pub fn hex(out: &mut [u8], at: usize, bytes: &[u8]) -> usize
     ensures out_after { out.new ≡ sets out.old at (hex_of bytes.now) }
 {
     let mut next = at;
-    let mut i = 0;
-    while i < bytes.len() {
+    for &byte in bytes {
         let mut digits = [0u8; 16];
-        let k = io::hex(bytes[i] as u64, 2, &mut digits);
+        let k = io::hex(u64::from(byte), 2, &mut digits);
         next = words(out, next, &digits[..k]);
-        i += 1;
     }
     next
 }
@@ -63,6 +57,6 @@ pub fn refused(out: &mut [u8], at: usize, why: Refusal) -> usize
     ensures value { result ≡ place_behind (length out.old) at (length (refused_of (number_of why) (carried_of why))) }
     ensures out_after { out.new ≡ sets out.old at (refused_of (number_of why) (carried_of why)) }
 {
-    let a = labelled(out, at, b"refused ", refusal::number(why) as u64);
-    labelled(out, a, b" ", refusal::carried(why) as u64)
+    let a = labelled(out, at, b"refused ", u64::from(refusal::number(why)));
+    labelled(out, a, b" ", u64::from(refusal::carried(why)))
 }

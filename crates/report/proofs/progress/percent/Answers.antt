@@ -11,8 +11,8 @@ below done all h = (div-lt_iff_lt-mul {k = all} {x = done * 100} {y = 100} (omeg
 pub returns-then-done-all : goal.returns-then-done-all
 returns-then-done-all c = rw (le-leb _ _ c.if-done-all.true)
 
-pub overflow_cast-result-3 : goal.overflow_cast-result-3
-overflow_cast-result-3 c = record { fits = omega (arith, below _ _ c.if-done-all.false) }
+pub overflow_cast-result : goal.overflow_cast-result
+overflow_cast-result c = rw (c.from.ensures, c.from-2.ensures) (record { fits = omega (arith, below _ _ c.if-done-all.false) })
 
 pub returns : goal.returns
-returns c = rw (lt-leb _ _ c.if-done-all.false)
+returns c = rw (c.from.ensures, c.from-2.ensures, lt-leb _ _ c.if-done-all.false)

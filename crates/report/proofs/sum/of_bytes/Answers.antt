@@ -1,16 +1,9 @@
--- The sum of the bytes before the place.
-use native.Mathlib.Omega.{arith}
+use mathlib.Core.Path.{◌≡◌, ◌∙◌}
 use borrow.Author.Rules.{rules}
-use Rattle.report.specs.Sum.{fold_all}
-use Rattle.report.proofs.SumLaws.{fold_more, bytes-all}
+use Rattle.std.specs.List as list
+use Rattle.report.specs.Sum.{fold}
+use Rattle.report.proofs.SumLaws.{folded}
 use Rattle.report.proofs.sum.of_bytes.Goals as goal
 
-pub loop-i-init : goal.loop-i-init
-unfolding fold_all
-loop-i-init c = search rules
-
-pub loop-i-preserved : goal.loop-i-preserved
-loop-i-preserved c = (omega arith, fold_more 0 _ c.loop-i.i (search rules) c.loop-i.invariant.1 c.fold-sum.ensures)
-
 pub returns : goal.returns
-returns c = bytes-all 0 _ c.loop-i.i (search rules) c.loop-i.invariant.1
+returns c = let h : c.fold.result ≡ list.fold fold 0 c.args.bytes.now = search rules in h ∙ folded 0 c.args.bytes.now

@@ -1,19 +1,12 @@
--- The sum of the sides before the place.
-use Prim.Native.Nat.{◌*◌}
-use mathlib.Core.Path.{ap, ◌∙◌}
+use Prim.Native.Nat.{ℕ, ◌*◌}
+use mathlib.Core.Path.{◌≡◌, ◌∙◌}
 use borrow.Author.Rules.{rules}
-use mir.Syntax.{w16}
-use mir.Facts.{to_z-of_z}
-use Rattle.report.specs.Sum.{fold_all, side_of}
-use Rattle.report.proofs.SumLaws.{sides-more, sides_all}
+use lib.IntN.{ℤ}
+use lib.ListN.{take}
+use Rattle.std.specs.List as list
+use Rattle.report.specs.Sum.{fold, side_of}
+use Rattle.report.proofs.SumLaws.{folded-sides}
 use Rattle.report.proofs.sum.of_frames.Goals as goal
 
-pub loop-i-init : goal.loop-i-init
-unfolding fold_all
-loop-i-init c = search rules
-
-pub loop-i-preserved : goal.loop-i-preserved
-loop-i-preserved c = (search rules, search rules, sides-more _ _ c.loop-i.i (search rules) c.loop-i.invariant.2 (c.side.ensures ∙ ap side_of (to_z-of_z {w = w16} (record { sfits = c.side-arg-1.given }))) c.fold-sum.ensures)
-
 pub returns : goal.returns
-returns c = sides_all _ (2 * c.args.frames) c.args.sides.now c.loop-i.i (search rules) (search rules) c.loop-i.invariant.2
+returns c = let h : c.fold.result ≡ list.fold (λ (s : ℕ) (v : ℤ). fold s (side_of v)) c.args.start (take c.min-end.result c.args.sides.now) = search rules in h ∙ folded-sides c.args.start (2 * c.args.frames) c.args.sides.now c.min-end.ensures

@@ -1,31 +1,28 @@
 -- Byte by byte, each as the text of its two digits.
 use mathlib.Core.Path.{refl, ◌∙◌}
-use borrow.Author.Rules.{rules}
 use Rattle.report.specs.Text.{hex_of}
-use Rattle.report.proofs.TextLaws.{none, laid, turn, all, hex-is, hex-split}
+use Rattle.report.proofs.TextLaws.{none, laid, hex-is, hex-turn, hex-all}
 use Rattle.report.proofs.text.hex.Goals as goal
 
-pub loop-i-init : goal.loop-i-init
+pub loop-byte-init : goal.loop-byte-init
 unfolding hex_of
-loop-i-init c = (search rules, refl, none _ _)
+loop-byte-init c = (refl, none _ _)
 
-pub loop-i-preserved : goal.loop-i-preserved
-loop-i-preserved c =
-    turn
-    hex_of
-    hex-split
+pub loop-byte-preserved : goal.loop-byte-preserved
+loop-byte-preserved c =
+    hex-turn
     _
-    c.loop-i.i
-    c.loop-i-test.true
-    c.loop-i.invariant.2
+    c.loop-byte.byte-index
+    c.loop-byte-test.true
+    c.loop-byte.invariant.1
     (laid
     _
     _
     _
-    (c.hex-k.ensures.digits ∙ hex-is _ _ (c.type_inv.bytes c.loop-i.i).fits c.hex-k.ensures.len)
+    (rw c.from.ensures at c.hex-k.ensures.digits ∙ hex-is _ _ (c.type_inv.bytes c.loop-byte.byte-index).fits (rw c.from.ensures at c.hex-k.ensures.len))
     (c.words-next.ensures.value, c.words-next.ensures.out_after))
 
 pub returns : goal.returns
 returns c =
-    let f = all hex_of hex-split _ c.loop-i.i c.loop-i-test.false c.loop-i.invariant.2 in
+    let f = hex-all _ c.loop-byte.byte-index c.loop-byte-test.false c.loop-byte.invariant.1 in
     record { value = f.0; out_after = f.1 }
