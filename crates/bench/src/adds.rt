@@ -1,15 +1,11 @@
 // The recorder's adds, as bench/add.c makes them.
-use little::Width;
 use recorder::Recorder;
-use std::num::wrapping_add_u32;
 
 // A whole buffer of them. What they write hangs on the sum so far.
 fn filled(sum: u32, buffer: &mut [u8; 1048576]) -> Recorder {
-    let s = recorder::start(buffer);
-    let mut r = s.recorder;
+    let mut r = recorder::start(buffer).recorder;
     let first = sum % 2_147_483_648;
-    let mut i: u32 = 0;
-    while i < 131_070 {
+    for i in 0..131_070 {
         let t = recorder::add(
             r,
             first + 16_000 * i,
@@ -18,7 +14,6 @@ fn filled(sum: u32, buffer: &mut [u8; 1048576]) -> Recorder {
             buffer,
         );
         r = t.recorder;
-        i += 1;
     }
     r
 }
@@ -27,20 +22,16 @@ fn filled(sum: u32, buffer: &mut [u8; 1048576]) -> Recorder {
 fn round(sum: u32, buffer: &mut [u8; 1048576]) -> u32 {
     let r = filled(sum, buffer);
     let t = recorder::finish(r, 4_294_967_295, buffer);
-    let f = t.recorder;
-    let n = wrapping_add_u32(sum, f.entries);
-    let at = (n % 1_048_576) as usize;
-    wrapping_add_u32(n, little::number_at(buffer, at, Width::U8))
+    let n = sum.wrapping_add(t.recorder.entries);
+    n.wrapping_add(u32::from(buffer[(n % 1_048_576) as usize]))
 }
 
 // So many rounds over a buffer of 1,048,576 bytes.
 pub(crate) fn sum_of(rounds: u64) -> u32 {
     let mut buffer = [0u8; 1048576];
     let mut sum = 0;
-    let mut i = 0;
-    while i < rounds {
+    for _ in 0..rounds {
         sum = round(sum, &mut buffer);
-        i += 1;
     }
     sum
 }

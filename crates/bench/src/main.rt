@@ -6,18 +6,32 @@
 // times; on `adds` and a count it fills a recorder's buffer so often, and prints a sum.
 #![tactic(auto)]
 
+ghost use Rattle.std.specs.Prelude.{◌<◌};
+
 mod adds;
 mod logs;
 
-use report::streams::{STDIN_FILENO, STDOUT_FILENO};
+use report::print;
+use report::streams::STDIN_FILENO;
 use report::sum::of_frames;
 use vsu::unit;
 use vsu::unit::{Ran, Vsu};
 
+// What all timed runs of both engines carry on.
 #[derive(Clone, Copy)]
 struct Timed {
     unit: Vsu,
     sum: u32,
+}
+
+impl Timed {
+    fn run<F: Fn(Vsu, u32, &mut [i16]) -> Ran>(&mut self, engine: &F, n: u32, out: &mut [i16])
+        requires { F.IsAlwaysCallable engine.now }
+    {
+        let r = engine(self.unit, n, out);
+        self.unit = r.state;
+        self.sum = of_frames(self.sum, out, r.frames);
+    }
 }
 
 fn byte(x: u32) -> u8 {
@@ -27,19 +41,13 @@ fn byte(x: u32) -> u8 {
 // One more decimal digit, of at most twelve; any other byte adds nothing.
 fn digit(n: u64, d: u8) -> u64 {
     match d {
-        48..=57 => n % 100_000_000_000 * 10 + (d - 48) as u64,
+        b'0'..=b'9' => n % 100_000_000_000 * 10 + u64::from(d - b'0'),
         _ => n,
     }
 }
 
 fn decimal(text: &[u8]) -> u64 {
-    let mut n = 0;
-    let mut i = 0;
-    while i < text.len() {
-        n = digit(n, text[i]);
-        i += 1;
-    }
-    n
+    text.iter().fold(0, |n, &d| digit(n, d))
 }
 
 // The first bytes of standard input, zeros behind a shorter one.
@@ -49,141 +57,107 @@ fn start() -> [u8; 16] {
     text
 }
 
-fn set(u: Vsu, address: u32, value: u8) -> Vsu {
-    let m = unit::write(u, address, value);
-    let s = m.state;
-    s
+fn set(u: &mut Vsu, address: u32, value: u8) {
+    *u = unit::write(*u, address, value).state;
 }
 
-fn waves(u: Vsu) -> Vsu {
-    let mut t = u;
-    let mut a: u32 = 0;
-    while a < 160 {
-        t = set(t, 4 * a, byte(a * 7 % 64));
-        a += 1;
+fn waves(u: &mut Vsu) {
+    for a in 0..160 {
+        set(u, 4 * a, byte(a * 7 % 64));
     }
-    t
 }
 
-fn modulation(u: Vsu) -> Vsu {
-    let mut t = u;
-    let mut a: u32 = 0;
-    while a < 32 {
-        t = set(t, 0x280 + 4 * a, byte(a * 37));
-        a += 1;
+fn modulation(u: &mut Vsu) {
+    for a in 0..32 {
+        set(u, 0x280 + 4 * a, byte(a * 37));
     }
-    t
 }
 
 // Offset 0x14: envelope on and looping; channel 5 modulates with the table looped, noise has tap 13.
-fn mode(c: u32) -> u8 {
-    match c {
+fn mode(channel: u32) -> u8 {
+    match channel {
         4 => 0x73,
         5 => 0x23,
         _ => 3,
     }
 }
 
-fn voice(u: Vsu, channel: u32) -> Vsu {
-    let c = channel % 6;
-    let base = 0x400 + 0x40 * c;
-    let v = set(u, base + 4, byte(0xF7 - c));
-    let w = set(v, base + 8, byte(0x40 * c + 0x21));
-    let x = set(w, base + 12, if c < 5 { 6 } else { 7 });
-    let y = set(x, base + 16, byte(0x90 + c));
-    let z = set(y, base + 20, mode(c));
-    let a = set(z, base + 24, byte(c % 5));
-    let b = set(a, base + 28, if c == 4 { 0x19 } else { 0 });
-    set(b, base, 0x9F)
+fn voice(u: &mut Vsu, channel: u32)
+    requires { channel < 6 }
+{
+    let base = 0x400 + 0x40 * channel;
+    set(u, base + 4, byte(0xF7 - channel));
+    set(u, base + 8, byte(0x40 * channel + 0x21));
+    set(u, base + 12, if channel < 5 { 6 } else { 7 });
+    set(u, base + 16, byte(0x90 + channel));
+    set(u, base + 20, mode(channel));
+    set(u, base + 24, byte(channel % 5));
+    set(u, base + 28, if channel == 4 { 0x19 } else { 0 });
+    set(u, base, 0x9F);
 }
 
-fn ready() -> Timed {
-    let mut u = modulation(waves(unit::new()));
-    let mut c: u32 = 0;
-    while c < 6 {
-        u = voice(u, c);
-        c += 1;
+fn ready() -> Vsu {
+    let mut u = unit::new();
+    waves(&mut u);
+    modulation(&mut u);
+    for channel in 0..6 {
+        voice(&mut u, channel);
     }
-    Timed { unit: u, sum: 0 }
+    u
 }
 
 // A byte at one offset of all six channels.
-fn each(t: Timed, offset: u8, value: u8) -> Timed {
-    let mut u = t.unit;
-    let mut c: u32 = 0;
-    while c < 6 {
-        u = set(u, 0x400 + 0x40 * c + offset as u32, value);
-        c += 1;
+fn each(u: &mut Vsu, offset: u8, value: u8) {
+    for channel in 0..6 {
+        set(u, 0x400 + 0x40 * channel + u32::from(offset), value);
     }
-    Timed { unit: u, sum: 0 }
 }
 
 // Every frequency 2047: a wave's sample every four cycles.
-fn highest(t: Timed) -> Timed {
-    let low = each(t, 0x08, 0xFF);
-    each(low, 0x0C, 7)
+fn highest() -> Vsu {
+    let mut u = ready();
+    each(&mut u, 0x08, 0xFF);
+    each(&mut u, 0x0C, 7);
+    u
 }
 
 // Noise at its fastest: a clock every forty cycles.
-fn hiss(t: Timed) -> Timed {
-    let u = set(t.unit, 0x548, 0xFF);
-    let v = set(u, 0x54C, 7);
-    Timed { unit: v, sum: 0 }
+fn hiss() -> Vsu {
+    let mut u = ready();
+    set(&mut u, 0x548, 0xFF);
+    set(&mut u, 0x54C, 7);
+    u
 }
 
 // Nothing plays.
-fn quiet(t: Timed) -> Timed {
-    let u = set(t.unit, 0x580, 1);
-    Timed { unit: u, sum: 0 }
+fn quiet() -> Vsu {
+    let mut u = ready();
+    set(&mut u, 0x580, 1);
+    u
 }
 
 // An interval of one tick on every envelope, as the sweep has it.
-fn ticking(t: Timed) -> Timed {
-    each(t, 0x10, 0x90)
+fn ticking() -> Vsu {
+    let mut u = ready();
+    each(&mut u, 0x10, 0x90);
+    u
 }
 
-fn summed(m: Ran, sum: u32, out: &[i16; 16384]) -> Timed {
-    let s = m.state;
-    Timed {
-        unit: s,
-        sum: of_frames(sum, out, m.frames),
-    }
-}
-
-fn run(t: Timed, n: u32, quickly: bool, out: &mut [i16; 16384]) -> Timed {
-    let u = t.unit;
-    if quickly {
-        let m = quick::run(u, n, out);
-        return summed(m, t.sum, out);
-    }
-    let m = unit::run(u, n, out);
-    summed(m, t.sum, out)
+fn sought(n: u64) -> Vsu {
+    quick::advance(ready(), (n % 4_294_967_296) as u32).state
 }
 
 // In parts, for a part's frames have to fit the buffer.
-fn sum_of(start: Timed, n: u64, quickly: bool) -> u32 {
+fn sum_of<F: Fn(Vsu, u32, &mut [i16]) -> Ran>(engine: F, unit: Vsu, n: u64) -> u32
+    requires { F.IsAlwaysCallable engine }
+{
     let mut out = [0i16; 16384];
-    let mut t = start;
-    let parts = n / 3_000_000;
-    let mut i = 0;
-    while i < parts {
-        t = run(t, 3_000_000, quickly, &mut out);
-        i += 1;
+    let mut t = Timed { unit, sum: 0 };
+    for _ in 0..n / 3_000_000 {
+        t.run(&engine, 3_000_000, &mut out);
     }
-    let last = run(t, (n % 3_000_000) as u32, quickly, &mut out);
-    last.sum
-}
-
-fn sought(t: Timed, n: u32) -> Timed {
-    let u = t.unit;
-    let m = quick::advance(u, n);
-    let s = m.state;
-    Timed { unit: s, sum: 0 }
-}
-
-fn show(sum: u32) {
-    io::print_decimal(STDOUT_FILENO, sum as u64);
-    io::write_all(STDOUT_FILENO, b"\n");
+    t.run(&engine, (n % 3_000_000) as u32, &mut out);
+    t.sum
 }
 
 fn main() {
@@ -196,15 +170,16 @@ fn main() {
     if n == 0 {
         return;
     }
-    match text[0] {
-        b'a' => show(adds::sum_of(n)),
-        b'p' => show(sum_of(ready(), n, true)),
-        b's' => show(sum_of(sought(ready(), (n % 4_294_967_296) as u32), 48_000, true)),
-        b'h' => show(sum_of(highest(ready()), n, true)),
-        b'n' => show(sum_of(hiss(ready()), n, true)),
-        b'q' => show(sum_of(quiet(ready()), n, true)),
-        b't' => show(sum_of(ticking(ready()), n, true)),
-        b'c' => show(sum_of(highest(ready()), n, false)),
-        _ => show(sum_of(ready(), n, false)),
-    }
+    let sum = match text[0] {
+        b'a' => adds::sum_of(n),
+        b'p' => sum_of(quick::run, ready(), n),
+        b's' => sum_of(quick::run, sought(n), 48_000),
+        b'h' => sum_of(quick::run, highest(), n),
+        b'n' => sum_of(quick::run, hiss(), n),
+        b'q' => sum_of(quick::run, quiet(), n),
+        b't' => sum_of(quick::run, ticking(), n),
+        b'c' => sum_of(unit::run, highest(), n),
+        _ => sum_of(unit::run, ready(), n),
+    };
+    print::line(b"#\n", &[u64::from(sum)]);
 }
