@@ -6,15 +6,27 @@
 
 mod song;
 
-use deck::{IMAGE_PLACE, MEMORY_SIZE, Player};
+use deck::{IMAGE_PLACE, MEMORY_SIZE, Player, Turn};
 use little::Width;
 use player::{go_to, mute, open, play, seek, set_free};
 use refusal::Answer;
-use report::streams::STDOUT_FILENO;
+use report::print;
 use report::sum::of_frames;
 use voice::channel_enum::Kind;
 use vsu::unit;
 use vsu::unit::Vsu;
+
+// No call of the story is refused; one that were would say so.
+fn accepted(a: Answer) {
+    if let Answer::Refused(why) = a {
+        print::line(b"refused #\n", &[u64::from(refusal::number(why))]);
+    }
+}
+
+fn turned(t: Turn) -> Player {
+    accepted(t.answer);
+    t.player
+}
 
 // A record and the sum of the frames that were played to come to it.
 #[derive(Clone, Copy)]
@@ -24,97 +36,61 @@ struct Heard {
     sum: u32,
 }
 
-fn text(t: &[u8]) {
-    io::write_all(STDOUT_FILENO, t);
-}
-
-fn number(n: u32) {
-    io::print_decimal(STDOUT_FILENO, n as u64);
-}
-
-fn from(p: Player) -> Heard {
-    Heard {
-        player: p,
-        frames: 0,
-        sum: 0,
+impl Heard {
+    fn from(player: Player) -> Heard {
+        Heard {
+            player,
+            frames: 0,
+            sum: 0,
+        }
     }
-}
 
-// No call of the story is refused; one that were would say so.
-fn accepted(a: Answer) {
-    match a {
-        Answer::Accepted => {}
-        Answer::Refused(why) => {
-            text(b"refused ");
-            number(refusal::number(why));
-            text(b"\n");
+    // n cycles on, 607,200 at the most: 1,265 frames.
+    fn on(&mut self, n: u32, log: &[u8]) {
+        let mut out = [0i16; 2530];
+        let r = play(self.player, n, log, &mut out);
+        accepted(r.answer);
+        self.player = r.player;
+        self.frames = self.frames.wrapping_add(r.frames);
+        self.sum = of_frames(self.sum, &out, r.frames);
+    }
+
+    // Bars 40 and 41.
+    fn tell(&self, what: &[u8]) {
+        print::line(what, &[]);
+        print::line(
+            b", bars 40 and 41: frames #, sum #",
+            &[u64::from(self.frames), u64::from(self.sum)],
+        );
+    }
+
+    fn compare(&self, what: &[u8], sum: u32) {
+        self.tell(what);
+        if self.sum == sum {
+            print::line(b", same\n", &[]);
+        } else {
+            print::line(b", different\n", &[]);
         }
     }
 }
 
-// n cycles on, 607,200 at the most: 1,265 frames.
-fn on(h: Heard, n: u32, log: &[u8]) -> Heard {
-    let mut out = [0i16; 2530];
-    let p = h.player;
-    let r = play(p, n, log, &mut out);
-    let a = r.answer;
-    accepted(a);
-    let q = r.player;
-    Heard {
-        player: q,
-        frames: std::num::wrapping_add_u32(h.frames, r.frames),
-        sum: of_frames(h.sum, &out, r.frames),
-    }
-}
-
 fn bars(p: Player, n: u32, log: &[u8]) -> Heard {
-    let mut h = from(p);
-    let mut i = 0;
-    while i < n {
-        h = on(h, song::BAR, log);
-        i += 1;
+    let mut h = Heard::from(p);
+    for _ in 0..n {
+        h.on(song::BAR, log);
     }
     h
 }
 
-// Bars 40 and 41.
-fn told(what: &[u8], h: Heard) {
-    text(what);
-    text(b", bars 40 and 41: frames ");
-    number(h.frames);
-    text(b", sum ");
-    number(h.sum);
-}
-
-fn compared(what: &[u8], h: Heard, sum: u32) {
-    told(what, h);
-    if h.sum == sum {
-        text(b", same\n");
-    } else {
-        text(b", different\n");
-    }
-}
-
 // Channel 5's table: the index, and whether it is still read.
 fn table(p: Player) {
-    let u = p.unit;
-    let voices = u.voices;
-    let v = voices[4];
-    let k = v.kind;
-    text(b"cycle ");
-    number(p.cycle);
-    if let Kind::Swept {
-        bank: _,
-        position: _,
-        sweep,
-    } = k
-    {
-        text(b": modulation index ");
-        number(sweep.index as u32);
+    print::line(b"cycle #", &[u64::from(p.cycle)]);
+    if let Kind::Swept { sweep, .. } = p.unit.voices[4].kind {
+        print::line(b": modulation index #", &[u64::from(sweep.index)]);
         if sweep.enable {
-            text(b", enabled\n");
+            print::line(b", enabled\n", &[]);
         } else {
-            text(b", not enabled\n");
+            print::line(b", not enabled\n", &[]);
         }
     }
 }
@@ -122,89 +98,63 @@ fn table(p: Player) {
 // The wrong way: from power-on, the last byte that each register was sent, in the order of their addresses.
 fn rebuilt(log: &[u8], before: u32) -> Vsu {
     let mut u = unit::new();
-    let mut address = 0;
-    while address < 0x600 {
-        let next = song::sent(u, log, address, before);
-        u = next;
-        address += 1;
+    for address in 0..0x600 {
+        if let Some(byte) = song::sent(log, address, before) {
+            u = unit::write(u, u32::from(address), byte).state;
+        }
     }
     u
 }
 
 fn wrong_way(p: Player, log: &[u8], sum: u32) {
-    let u = rebuilt(log, p.cycle);
     let mut q = p;
-    q.unit = u;
+    q.unit = rebuilt(log, p.cycle);
     table(q);
-    compared(b"last byte of each register", bars(q, 2, log), sum);
+    bars(q, 2, log).compare(b"last byte of each register", sum);
 }
 
 // Back to bar 40, by the mark and by the cycle, from a record that has played on.
 fn back(p: Player, cycle: u32, log: &[u8], memory: &[u8], sum: u32) {
-    let t = go_to(p, 0, log, memory);
-    let a = t.answer;
-    accepted(a);
-    let q = t.player;
-    table(q);
-    compared(b"gone to the mark", bars(q, 2, log), sum);
-    let s = seek(p, cycle, log);
-    let b = s.answer;
-    accepted(b);
-    let r = s.player;
-    table(r);
-    compared(b"sought back", bars(r, 2, log), sum);
+    let gone = turned(go_to(p, 0, log, memory));
+    table(gone);
+    bars(gone, 2, log).compare(b"gone to the mark", sum);
+    let sought = turned(seek(p, cycle, log));
+    table(sought);
+    bars(sought, 2, log).compare(b"sought back", sum);
 }
 
 // The log opened, and played to where bar 1 begins.
 fn begun(log: &[u8]) -> Player {
-    let t = open(log);
-    let a = t.answer;
-    accepted(a);
-    let p = t.player;
-    let h = on(from(p), song::UPBEAT, log);
-    let q = h.player;
-    q
+    let mut h = Heard::from(turned(open(log)));
+    h.on(song::UPBEAT, log);
+    h.player
 }
 
 // A run with no mark and no way back.
 fn unbroken(log: &[u8], sum: u32) {
-    let h = bars(begun(log), 39, log);
-    let p = h.player;
-    compared(b"opened anew and played through", bars(p, 2, log), sum);
+    let p = bars(begun(log), 39, log).player;
+    bars(p, 2, log).compare(b"opened anew and played through", sum);
 }
 
 // Bar 1, in which the table ends, then to bar 40.
 fn to_bar_40(log: &[u8]) -> Player {
     let p = begun(log);
     table(p);
-    let h = bars(p, 1, log);
-    let q = h.player;
+    let q = bars(p, 1, log).player;
     table(q);
-    let i = bars(q, 38, log);
-    let r = i.player;
-    r
-}
-
-fn with_mutes(p: Player, bits: u32) -> Player {
-    let t = mute(p, bits);
-    let a = t.answer;
-    accepted(a);
-    t.player
+    bars(q, 38, log).player
 }
 
 // To the mark with the voice muted: silence; then unmuted there.
 fn silent_there(what: &[u8], p: Player, log: &[u8], memory: &[u8], sum: u32) {
-    let t = go_to(p, 0, log, memory);
-    let a = t.answer;
-    accepted(a);
-    let q = t.player;
-    compared(what, bars(q, 2, log), sum);
-    compared(b"unmuted there", bars(with_mutes(q, 0), 2, log), sum);
+    let q = turned(go_to(p, 0, log, memory));
+    bars(q, 2, log).compare(what, sum);
+    bars(turned(mute(q, 0)), 2, log).compare(b"unmuted there", sum);
 }
 
 // The mark is slot 0; an image's edition is its first number, and with nothing muted the two editions differ in that alone.
 fn rehearsal(p: Player, log: &[u8], memory: &mut [u8], sum: u32) {
-    let q = with_mutes(p, 16);
+    let q = turned(mute(p, 16));
     silent_there(b"muted and gone to the mark", q, log, memory, sum);
     little::put(memory, IMAGE_PLACE, Width::U16, 1);
     silent_there(
@@ -217,20 +167,15 @@ fn rehearsal(p: Player, log: &[u8], memory: &mut [u8], sum: u32) {
 }
 
 fn story(log: &[u8], memory: &mut [u8]) {
-    let p = to_bar_40(log);
-    let t = set_free(p, log, memory);
-    let a = t.answer;
-    accepted(a);
-    let q = t.player;
-    table(q);
-    let h = bars(q, 2, log);
-    told(b"mark set and played on", h);
-    text(b"\n");
-    let r = h.player;
-    back(r, q.cycle, log, memory, h.sum);
+    let p = turned(set_free(to_bar_40(log), log, memory));
+    table(p);
+    let h = bars(p, 2, log);
+    h.tell(b"mark set and played on");
+    print::line(b"\n", &[]);
+    back(h.player, p.cycle, log, memory, h.sum);
     unbroken(log, h.sum);
-    wrong_way(q, log, h.sum);
-    rehearsal(r, log, memory, h.sum);
+    wrong_way(p, log, h.sum);
+    rehearsal(h.player, log, memory, h.sum);
 }
 
 fn main() {
