@@ -4,152 +4,115 @@
 // calls at the edges of the refusals.
 #![tactic(auto)]
 
+mod call;
 mod damage;
 mod trial;
 
-use crate::damage::{Damage, Given};
-use crate::trial::{Call, Seen};
+use crate::call::Call;
+use crate::damage::{Damage, Given, ROWS, Row};
+use crate::trial::{Seen, tried};
 use deck::MEMORY_SIZE;
 use little::Width;
+use player::{lowest_free, marks_set};
+use refusal::{Answer, Refusal};
 use report::print;
-use report::streams::STDOUT_FILENO;
 
-fn text(t: &[u8]) {
-    io::write_all(STDOUT_FILENO, t);
+// The call and what it was given.
+fn head(c: Call, what: &[u8]) {
+    print::line(c.name(), &[]);
+    print::line(b": ", &[]);
+    print::line(what, &[]);
 }
 
-// A word of a list that has one to a line.
-fn word(list: &[u8], n: u32) {
-    let mut k = 0;
-    let mut i = 0;
-    while i < list.len() {
-        let b = [list[i]];
-        if b[0] == b'\n' {
-            k = std::num::wrapping_add_u32(k, 1);
-        } else if k == n {
-            text(&b);
-        }
-        i += 1;
+// A refusal as it is printed.
+fn numbers(why: Refusal) -> [u64; 2] {
+    [
+        u64::from(refusal::number(why)),
+        u64::from(refusal::carried(why)),
+    ]
+}
+
+fn told(a: Answer) {
+    match a {
+        Answer::Accepted => print::line(b": accepted", &[]),
+        Answer::Refused(why) => print::line(b": refused # #", &numbers(why)),
     }
 }
 
-// The call's bit in the table of damages.
-fn bit(c: Call) -> u8 {
-    match c {
-        Call::Open => 1,
-        Call::Play => 2,
-        Call::Seek => 4,
-        Call::SetMark => 8,
-        Call::SetFree => 16,
-        Call::ClearMark => 32,
-        Call::GoTo => 64,
-        Call::Mute => 128,
-    }
-}
-
-// In the order of their bits.
-fn name(c: Call) {
-    word(
-        b"open: \nplay: \nseek: \nset_mark: \nset_free: \nclear_mark: \ngo_to: \nmute: ",
-        u8::trailing_zeros(bit(c)),
-    );
-}
-
-// In the order of their rows.
-fn damage_name(i: u32) {
-    word(
-        b"log short\nlog edition\nlog header length\nlog entry offset\nlog count\nlog size\nlog entry 2\nlog entry 4\nrecord state\nrecord mutes\nmute bits\nrecord cycle\nrecord applied\nmemory short\nmark number\nmark not set\nall set\nslot edition\nslot header\nslot level\nslot output\nslot mutes\nslot cycle\nslot applied\nbeyond\nroom",
-        i,
-    );
-}
-
-fn told(s: Seen) {
-    if s.number == 0 {
-        text(b"accepted");
-    } else {
-        print::line(b"refused # #", &[s.number as u64, s.carried as u64]);
+fn is_refused_for(a: Answer, expected: Refusal) -> bool {
+    match a {
+        Answer::Accepted => false,
+        Answer::Refused(why) => numbers(why) == numbers(expected),
     }
 }
 
 // The rows are in document 01's order, so that of two damages the first is the one refused.
-fn verdict(s: Seen, number: u32, carried: u32) {
+fn verdict(s: Seen, expected: Refusal) {
     if s.kept {
-        text(b" kept");
+        print::line(b" kept", &[]);
     } else {
-        text(b" CHANGED");
+        print::line(b" CHANGED", &[]);
     }
-    if (s.number == number) & (s.carried == carried) {
-        text(b" ok\n");
+    if is_refused_for(s.answer, expected) {
+        print::line(b" ok\n", &[]);
     } else {
-        text(b" WRONG\n");
+        print::line(b" WRONG\n", &[]);
     }
 }
 
-fn pair(g: Given, c: Call, a: u32, b: u32) {
-    let first = damage::row_at(a);
-    let second = damage::row_at(if a < b { b } else { damage::ROWS });
-    let d = first.0;
-    let e = second.0;
-    let s = trial::tried(c, g, d, e);
-    name(c);
-    damage_name(a);
-    if a < b {
-        text(b" + ");
-        damage_name(b);
-    }
-    text(b": ");
-    told(s);
-    verdict(s, first.1, first.2);
-}
-
-fn refused_for(c: Call, i: u32) -> bool {
-    let r = damage::row_at(i);
-    r.3 & bit(c) != 0
+// A damage, alone or with a later one.
+fn damaged(g: Given, c: Call, first: &Row, later: Option<&Row>) {
+    head(c, first.name);
+    let s = match later {
+        Some(second) => {
+            print::line(b" + ", &[]);
+            print::line(second.name, &[]);
+            tried(c, g, &[first.damage, second.damage])
+        }
+        None => tried(c, g, &[first.damage]),
+    };
+    told(s.answer);
+    verdict(s, first.refusal);
 }
 
 // A damage alone, then with each later one that the call is refused for.
-fn with_each(g: Given, c: Call, a: u32) {
-    let mut b = a;
-    while b < damage::ROWS {
-        if refused_for(c, b) {
-            pair(g, c, a, b);
+fn with_each(g: Given, c: Call, first: &Row, later: &[Row]) {
+    damaged(g, c, first, None);
+    for second in later {
+        if second.calls.contains(&c) {
+            damaged(g, c, first, Some(second));
         }
-        b += 1;
     }
 }
 
 fn refusals(g: Given, c: Call) {
-    let mut a = 0;
-    while a < damage::ROWS {
-        if refused_for(c, a) {
-            with_each(g, c, a);
+    for (i, row) in ROWS.iter().enumerate() {
+        if row.calls.contains(&c) {
+            with_each(g, c, row, &ROWS[i + 1..]);
         }
-        a += 1;
     }
 }
 
-// A call with one damage or none: what it came to, and whether all is as before.
-fn line(c: Call, what: &[u8], g: Given, d: Damage) {
-    let s = trial::tried(c, g, d, Damage::Nothing);
-    name(c);
-    text(what);
-    text(b": ");
-    told(s);
+// A call with damages or none: what it came to, and whether all is as before.
+fn line(c: Call, what: &[u8], g: Given, damages: &[Damage]) {
+    let s = tried(c, g, damages);
+    head(c, what);
+    told(s.answer);
     print::line(
         b", frames #, cycle # applied # marks # free # mutes #",
         &[
-            s.frames as u64,
-            s.cycle as u64,
-            s.applied as u64,
-            s.marks as u64,
-            s.free as u64,
-            s.mutes as u64,
+            u64::from(s.frames),
+            u64::from(s.player.cycle),
+            u64::from(s.player.applied),
+            u64::from(marks_set(s.player)),
+            u64::from(lowest_free(s.player)),
+            u64::from(s.player.unit.mutes),
         ],
     );
     if s.kept {
-        text(b", kept\n");
+        print::line(b", kept\n", &[]);
     } else {
-        text(b", changed\n");
+        print::line(b", changed\n", &[]);
     }
 }
 
@@ -179,7 +142,7 @@ fn to(g: Given, end: u32, sides: usize) -> Given {
 }
 
 fn edge(c: Call, what: &[u8], g: Given) {
-    line(c, what, g, Damage::Nothing);
+    line(c, what, g, &[]);
 }
 
 fn plays(g: Given) {
@@ -214,16 +177,21 @@ fn seeks(g: Given) {
 }
 
 fn sets(g: Given) {
-    line(Call::SetMark, b"a free slot", g, Damage::Slot(15));
+    line(Call::SetMark, b"a free slot", g, &[Damage::Slot(15)]);
     edge(Call::SetMark, b"a slot in use", g);
     line(
         Call::SetMark,
         b"memory of 6849 bytes",
         g,
-        Damage::MemoryEnds(6849),
+        &[Damage::MemoryEnds(6849)],
     );
     edge(Call::SetFree, b"slot 3 in use", g);
-    line(Call::SetFree, b"slot 3 cleared", g, Damage::Marks(0xFFF7));
+    line(
+        Call::SetFree,
+        b"slot 3 cleared",
+        g,
+        &[Damage::Marks(0xFFF7)],
+    );
 }
 
 // "A call checks only what it is lent": clear has no log to find a wrong place by.
@@ -233,9 +201,14 @@ fn clears(g: Given) {
         Call::ClearMark,
         b"record cycle above L",
         g,
-        Damage::Cycle(4801, 6),
+        &[Damage::Cycle(4801, 6)],
     );
-    line(Call::ClearMark, b"record applied wrong", g, Damage::Behind);
+    line(
+        Call::ClearMark,
+        b"record applied wrong",
+        g,
+        &[Damage::Behind],
+    );
     edge(Call::GoTo, b"slot 3", g);
     let mut t = g;
     t.slot = 4;
@@ -243,7 +216,7 @@ fn clears(g: Given) {
         Call::GoTo,
         b"a slot no call wrote",
         t,
-        Damage::Marks(0xFFFF),
+        &[Damage::Marks(0xFFFF)],
     );
 }
 
@@ -253,29 +226,33 @@ fn mutes(g: Given) {
         Call::GoTo,
         b"slot 3 of edition 1",
         g,
-        Damage::Memory(1292, Width::U16, 1),
+        &[Damage::Memory(1292, Width::U16, 1)],
     );
     edge(Call::Mute, b"all six", g);
-    line(Call::Mute, b"none", g, Damage::Bits(0));
-    line(Call::Mute, b"4294967295", g, Damage::Bits(4_294_967_295));
+    line(Call::Mute, b"none", g, &[Damage::Bits(0)]);
+    line(Call::Mute, b"4294967295", g, &[Damage::Bits(4_294_967_295)]);
     line(
         Call::Mute,
         b"record cycle above L",
         g,
-        Damage::Cycle(4801, 6),
+        &[Damage::Cycle(4801, 6)],
     );
 }
 
 fn main() {
     let g = given();
-    refusals(g, Call::Open);
-    refusals(g, Call::Play);
-    refusals(g, Call::Seek);
-    refusals(g, Call::SetMark);
-    refusals(g, Call::SetFree);
-    refusals(g, Call::ClearMark);
-    refusals(g, Call::GoTo);
-    refusals(g, Call::Mute);
+    for c in [
+        Call::Open,
+        Call::Play,
+        Call::Seek,
+        Call::SetMark,
+        Call::SetFree,
+        Call::ClearMark,
+        Call::GoTo,
+        Call::Mute,
+    ] {
+        refusals(g, c);
+    }
     plays(g);
     plays_to_end(g);
     seeks(g);
