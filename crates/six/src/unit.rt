@@ -116,9 +116,9 @@ pub fn stop_all(voices: [Voice; 6]) -> [Voice; 6]
     voices.map(channel_enum::stop_voice)
 }
 
-// Steps 1 to 3 of a cycle: each voice is fetched once. Neither a loop nor `voices.map(..)`, with which a cycle takes 215 ns in place of 26: the
-// three steps are too large to unroll, and each voice then goes through memory. A voice's steps are three calls for the same reason
-// (docs/PERFORMANCE.md).
+// Steps 1 to 3 of a cycle: each voice is fetched once. Not a loop and not `voices.map(..)`, with which a cycle takes 215 ns in place of 26: the
+// three steps are too large to unroll, and each voice then goes through memory. Six elements inside `[..]` take 35 ns. A voice's steps are three
+// calls for the same reason (docs/PERFORMANCE.md).
 fn step_voices(voices: [Voice; 6]) -> [Voice; 6]
     ensures { result ≡ map (λ v. step_envelope (step_frequency (step_auto_stop v))) voices }
 {
