@@ -1,5 +1,5 @@
 -- n cycles of the six voices at once: as many as the nearest of them takes.
-use Rattle.std.specs.Prelude.{◌≡◌, ℕ, zero, suc, ◌+◌, ◌-◌, ◌<◌, ◌≤◌, true, ltb, List, [], ◌∷◌, map, length, get_or, drop, ℤ}
+use Rattle.std.specs.Prelude.{◌≡◌, ℕ, zero, suc, ◌+◌, ◌<◌, ◌≤◌, true, List, [], ◌∷◌, map, length, get_or, drop, ℤ}
 use mathlib.Core.Path.{refl, sym, ap, ◌∙◌}
 use mathlib.Core.Bool.{false≢true}
 use mathlib.Core.List.{map-id, map-map}
@@ -7,7 +7,7 @@ use native.Mathlib.Numerals.{add-one}
 use native.Mathlib.Omega.{arith}
 use lib.ListN.{drop_of_length-le}
 use lib.Seq.{drop-cons}
-use Rattle.laws.proofs.Cases.{each, ways}
+use Rattle.laws.proofs.Cases.{each}
 use Rattle.common.proofs.ChannelLaws.{channel-facts}
 use Rattle.common.specs.Channel.{channel_in_range}
 use Rattle.voice.specs.ChannelEnum.{step_auto_stop, step_envelope, step_frequency, step_sweep, step_sweep_of, wave_in_range, wave_kind_in_range, swept_in_range, swept_kind_in_range, noise_in_range, noise_kind_in_range}
@@ -141,24 +141,14 @@ module _ (m : List ℤ) where
           (λ i g. sym (leap-taken n (voice_at i vs) (can i (omega (arith, k.six)) ((within_all n never vs h).1 i g)) refl))
           ∙ sym (all-leap n h)
 
--- a turn of `cycles`, i cycles in: what is left of n, or as far as all can go
+-- a turn of `cycles`, i cycles in, that goes no further at once than all can
 
-pub part-le : (a b : ℕ) {part : ℕ} → part ≡ least a b → part ≤ a
-part-le a b {part} p = (within a b {n = part} (rw p (omega arith))).0
-
-module _ (m : List ℤ) (i : ℕ) (vs : List Voice) (h : length vs ≡ 6) (r : voices_in_range vs ≡ true) {out : List Voice} (e : out ≡ voices_after_all m i vs) (left : ℕ) {far part : ℕ} (f : far ≡ voices_far out) (p : part ≡ least left far) where
+module _ (m : List ℤ) (i : ℕ) (vs : List Voice) (h : length vs ≡ 6) (r : voices_in_range vs ≡ true) {out : List Voice} (e : out ≡ voices_after_all m i vs) {far part : ℕ} (f : far ≡ voices_far out) (p : part ≤ far) where
   pub after-leap : {there : List Voice} → there ≡ map (leap_of part) out → there ≡ voices_after_all m (i + part) vs
   after-leap q =
       let k : Six out = rw e (steps-keep m i (six-facts vs h r)) in
-      let n : part ≤ voices_far out = rw f at (within left far {n = part} (rw p (omega arith))).1 in
+      let n : part ≤ voices_far out = rw f at p in
       q ∙ leap-is m k n ∙ ap (voices_after_all m part) e ∙ sym (cycles-add m i part vs)
 
   pub after_one : {there next : List Voice} → there ≡ map (leap_of part) out → next ≡ voices_after_all m 1 there → next ≡ voices_after_all m (i + part + 1) vs
   after_one q o = o ∙ ap (voices_after_all m 1) (after-leap q) ∙ sym (cycles-add m (i + part) 1 vs)
-
--- the cycles up to a frame, its own among them
-pub frame-part : (left output : ℕ) {part : ℕ} → part ≡ least left (480 - output) → output ≤ 479 → (part ≤ left) × (output + part ≤ 480) × (0 < left → 0 < part)
-unfolding least
-frame-part left output {part} p h =
-    let k = within left (480 - output) {n = part} (rw p (omega arith)) in
-    (k.0, omega (arith, k.1), λ l. rw p (ways (λ (x : ℕ). 0 < x) (ltb left (480 - output)) (λ _. l) (λ _. omega arith)))

@@ -1,7 +1,7 @@
 // The unit: the Rust's `VSU`.
-ghost use Rattle.std.specs.Prelude.{◌≡◌, ◌+◌, ◌*◌, ◌<◌, ◌≤◌, true, ◌++◌, length, drop, if◌then◌else◌};
+ghost use Rattle.std.specs.Prelude.{◌≡◌, ◌+◌, ◌*◌, ◌%◌, ◌≤◌, true, ◌++◌, length, drop, if◌then◌else◌};
 ghost use Rattle.refusal.specs.Refusal.{Tells};
-ghost use Rattle.six.specs.Core.{silenced, sums_of};
+ghost use Rattle.six.specs.Core.{silenced, sums_of, voices_after_all, voices_in_range};
 ghost use Rattle.vsu.specs.Core.{power_on, decode_of, write_to, write, says, said_answer, frame_of, run, frames, frames_due, sides, all_at_most, in_range, unit_answer, write_of, advance_of, run_answer, run_of, SmallSums};
 
 use crate::constants::SOUND_SAMPLE_RATE_CYCLE_COUNT;
@@ -274,81 +274,78 @@ pub fn frames_due(u: Vsu, n: u32) -> u64
     ((u.output as u64) + (n as u64)) / (SOUND_SAMPLE_RATE_CYCLE_COUNT as u64)
 }
 
-// How many of the cycles left come before the next frame, its own among them.
-fn up_to_frame(left: u32, output: u32) -> u32
-    requires { output ≤ 479 }
-    ensures { (result ≤ left) × (output + result ≤ 480) × (0 < left → 0 < result) }
-{
-    let due = SOUND_SAMPLE_RATE_CYCLE_COUNT - output;
-    if left < due { left } else { due }
+// A way to make cycles of the six voices, for callers that have checked the range.
+pub trait Engine {
+    fn cycles(voices: [Voice; 6], modulation: &[i8; 32], n: u32) -> [Voice; 6]
+        requires { voices_in_range voices ≡ true }
+        ensures { result ≡ voices_after_all modulation.now n voices };
+}
+
+// Cycle by cycle, as the Rust.
+pub struct ByCycle;
+
+impl Engine for ByCycle {
+    fn cycles(voices: [Voice; 6], modulation: &[i8; 32], n: u32) -> [Voice; 6] {
+        six::unit::cycles(voices, modulation, n)
+    }
 }
 
 // n cycles, whose frames fill the front of `out`. For callers that have made the two checks of `run`.
-fn step(u: Vsu, n: u32, out: &mut [i16]) -> Vsu
+fn step<E: Engine>(u: Vsu, n: u32, out: &mut [i16]) -> Vsu
     requires { (in_range u ≡ true) × (frames_due u n * 2 ≤ length out.old) }
     ensures { (result ≡ run n u) × (out.new ≡ sides (frames n u) ++ drop (frames_due u n * 2) out.old) }
 {
-    let waves = u.waves;
-    let modulation = u.modulation;
     let mut voices = u.voices;
     let mut output = u.output;
     let mut at = 0;
     let mut i = 0;
     while i < n {
-        let part = up_to_frame(n - i, output);
-        let next = six::unit::cycles(voices, &modulation, part);
+        let part = (n - i).min(SOUND_SAMPLE_RATE_CYCLE_COUNT - output);
+        let next = E::cycles(voices, &u.modulation, part);
         voices = next;
         i += part;
-        if output + part < SOUND_SAMPLE_RATE_CYCLE_COUNT {
-            output += part;
-        } else {
+        output += part;
+        if output == SOUND_SAMPLE_RATE_CYCLE_COUNT {
             output = 0;
-            let f = sample(voices, &waves, u.mutes);
-            let l = f.left;
-            let r = f.right;
-            out[at] = l;
-            out[at + 1] = r;
+            let frame = sample(voices, &u.waves, u.mutes);
+            out[at] = frame.left;
+            out[at + 1] = frame.right;
             at += 2;
         }
     }
-    let mut t = u;
-    t.voices = voices;
-    t.output = output;
-    t
+    Vsu {
+        voices,
+        output,
+        ..u
+    }
 }
 
-// How many cycles of `left` go into one call of `step` with room for 64 frames.
-fn part_of(left: u32) -> u32
-    ensures { (result ≤ left) × (result ≤ 30240) × (0 < left → 0 < result) }
+// The output counter n cycles on.
+fn output_after(output: u32, n: u32) -> u32
+    ensures { result ≡ (output + n) % 480 }
 {
-    if left < 30_240 { left } else { 30_240 }
+    ((u64::from(output) + u64::from(n)) % u64::from(SOUND_SAMPLE_RATE_CYCLE_COUNT)) as u32
 }
 
-// n cycles without frames, for callers that have checked the range: `step` into a buffer that is thrown away. With a loop of its own
-// here, `cycle` has two callers and is no longer compiled into either, and a cycle costs ten times as much (docs/PERFORMANCE.md).
-fn skip(u: Vsu, n: u32) -> Vsu
+// n cycles without frames, for callers that have checked the range: no frame is a stop.
+fn skip<E: Engine>(u: Vsu, n: u32) -> Vsu
     requires { in_range u ≡ true }
     ensures { result ≡ run n u }
 {
-    let mut thrown = [0i16; 128];
-    let mut t = u;
-    let mut i = 0;
-    while i < n {
-        let part = part_of(n - i);
-        let next = step(t, part, &mut thrown);
-        t = next;
-        i += part;
+    Vsu {
+        voices: E::cycles(u.voices, &u.modulation, n),
+        output: output_after(u.output, n),
+        ..u
     }
-    t
 }
 
-// n cycles without frames.
-pub fn advance(u: Vsu, n: u32) -> Moved
+// n cycles without frames, by an engine.
+pub fn advance_by<E: Engine>(u: Vsu, n: u32) -> Moved
     ensures { (result ≡ advance_of n u) × Tells result.answer (unit_answer u) }
 {
     if in_range(u) {
         return Moved {
-            state: skip(u, n),
+            state: skip::<E>(u, n),
             answer: Answer::Accepted,
         };
     }
@@ -358,8 +355,8 @@ pub fn advance(u: Vsu, n: u32) -> Moved
     }
 }
 
-// n cycles, whose frames fill the front of `out`.
-pub fn run(u: Vsu, n: u32, out: &mut [i16]) -> Ran
+// n cycles, whose frames fill the front of `out`, by an engine.
+pub fn run_by<E: Engine>(u: Vsu, n: u32, out: &mut [i16]) -> Ran
     ensures { (result ≡ (run_of n u out.old).ran)
         × (out.new ≡ (run_of n u out.old).out)
         × Tells result.answer (run_answer n u (length out.old)) }
@@ -380,8 +377,24 @@ pub fn run(u: Vsu, n: u32, out: &mut [i16]) -> Ran
         };
     }
     Ran {
-        state: step(u, n, out),
+        state: step::<E>(u, n, out),
         frames: due as u32,
         answer: Answer::Accepted,
     }
+}
+
+// n cycles without frames.
+pub fn advance(u: Vsu, n: u32) -> Moved
+    ensures { (result ≡ advance_of n u) × Tells result.answer (unit_answer u) }
+{
+    advance_by::<ByCycle>(u, n)
+}
+
+// n cycles, whose frames fill the front of `out`.
+pub fn run(u: Vsu, n: u32, out: &mut [i16]) -> Ran
+    ensures { (result ≡ (run_of n u out.old).ran)
+        × (out.new ≡ (run_of n u out.old).out)
+        × Tells result.answer (run_answer n u (length out.old)) }
+{
+    run_by::<ByCycle>(u, n, out)
 }

@@ -1,18 +1,15 @@
 use Rattle.std.specs.Prelude.{◌≡◌, length}
-use mathlib.Core.Path.{refl, ◌∙◌, ap}
-use Rattle.leaps.specs.Distance.{least}
-use Rattle.quick.proofs.VoicesLaws as laws
+use mathlib.Core.Path.{◌∙◌, ap}
 use native.Mathlib.Omega.{arith}
 use borrow.Author.Rules.{rules}
+use Rattle.leaps.specs.Distance.{least}
+use Rattle.quick.proofs.VoicesLaws as laws
 use Rattle.quick.proofs.voices.far.Goals as goal
 
-pub loop-i-init : goal.loop-i-init
-loop-i-init c = (search rules, refl)
-
-pub loop-i-preserved : goal.loop-i-preserved
-loop-i-preserved c =
+pub loop-v-preserved : goal.loop-v-preserved
+loop-v-preserved c =
     let six : length c.args.voices ≡ 6 = search rules in
-    (search rules, laws.far-later _ _ _ _ (omega arith) c.loop-i.invariant.1 (c.least-nearest.ensures ∙ ap (least _) c.far.ensures))
+    laws.far-later _ _ _ _ (omega arith) c.loop-v.invariant (c.least-nearest.ensures ∙ ap (least _) c.far.ensures)
 
 pub returns : goal.returns
-returns c = let six : length c.args.voices ≡ 6 = search rules in laws.far-all c.args.voices c.loop-i.i (omega arith) c.loop-i.invariant.1
+returns c = let six : length c.args.voices ≡ 6 = search rules in laws.far-all c.args.voices c.loop-v.v-index (omega arith) c.loop-v.invariant

@@ -1,18 +1,13 @@
-use Rattle.six.proofs.Upto.{up_to-none, up_to-more, up_to-all}
 use Rattle.std.specs.Prelude.{◌≡◌, length}
+use mathlib.Core.Path.{◌∙◌, ap}
 use native.Mathlib.Omega.{arith}
 use borrow.Author.Rules.{rules}
+use Rattle.leaps.specs.ChannelEnum.{leap_of}
+use Rattle.std.proofs.lemmas.List.Edits.{map_over_more}
 use Rattle.quick.proofs.voices.leap.Goals as goal
+use lib.ListN.{set}
 
-pub loop-i-init : goal.loop-i-init
-loop-i-init c = (search rules, up_to-none _ _)
-
-pub loop-i-preserved : goal.loop-i-preserved
-loop-i-preserved c =
+pub loop-v-preserved : goal.loop-v-preserved
+loop-v-preserved c =
     let six : length c.args.voices ≡ 6 = search rules in
-    (search rules, up_to-more _ _ _ c.loop-i.invariant.1 (omega arith) c.leap.ensures)
-
-pub returns : goal.returns
-returns c =
-    let six : length c.args.voices ≡ 6 = search rules in
-    up_to-all _ _ c.loop-i.invariant.1 (omega arith)
+    ap (set c.loop-v.v-items c.loop-v.v-index) c.leap.ensures ∙ map_over_more (leap_of c.args.n) c.args.voices c.loop-v.v-items c.loop-v.v-index _ (omega (arith, six)) c.loop-v.invariant (search rules)

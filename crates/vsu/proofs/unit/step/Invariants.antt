@@ -3,7 +3,7 @@ use Rattle.vsu.proofs.StepLaws as laws
 use Rattle.vsu.proofs.unit.step.Given as goal
 
 abbrev pub invariant-loop-i : goal.invariant-loop-i
-invariant-loop-i l = laws.Stands l.u l.n l.initial.out l.i l.voices l.output l.at l.out
+invariant-loop-i g l = laws.Stands l.u l.n l.initial.out l.i l.voices l.output l.at l.out
 
 abbrev pub decreases-loop-i : goal.decreases-loop-i
-decreases-loop-i l = l.n - l.i
+decreases-loop-i g l = l.n - l.i

@@ -1,6 +1,6 @@
 use Rattle.six.specs.Core.{voices_after_all}
 use Rattle.std.specs.Prelude.{◌≡◌, ◌-◌, ◌≤◌}
-use Rattle.quick.proofs.voices.cycles.Given as goal
+use Rattle.quick.proofs.voices.ByLeapsEngine.cycles.Given as goal
 
 abbrev pub invariant-loop-i : goal.invariant-loop-i
 invariant-loop-i l = (l.i ≤ l.n) × (l.out ≡ voices_after_all l.modulation l.i l.initial.out)
