@@ -22,16 +22,15 @@ pub struct Loaded {
 fn put_fields(out: &mut [u8], f: &[u32; FIELDS])
     ensures { out.new ≡ sets out.old 0 (bytes_of newest f.now newest.fields) }
 {
-    let mut i = 0;
-    while i < FIELDS {
+    for (i, value) in f.iter().enumerate() {
         let r = table::row_at(NEWEST, i as u16);
-        let width = r.width;
-        little::put(out, r.offset as usize, width, f[i]);
-        i += 1;
+        little::put(out, r.offset as usize, r.width, *value);
     }
 }
 
-// The edition that an image names. A number that no edition has is left to the newest, whose header it breaks.
+// The edition that an image names. A number that no edition has is left to the newest, whose header it breaks: no TryFrom, since it
+// refuses nothing.
+#[tactic(auto, unfolding(crate::specs::Image::known_in))]
 fn edition_in(b: &[u8]) -> Known
     ensures { result ≡ known_in b.now }
 {
@@ -45,14 +44,10 @@ fn edition_in(b: &[u8]) -> Known
 fn take_fields(edition: Known, b: &[u8]) -> [u32; FIELDS]
     ensures { result ≡ fields_in (known_edition edition) b.now ++ replicate (newest.fields - field_count edition) 0 }
 {
-    let n = table::fields_in(edition);
     let mut f = [0; FIELDS];
-    let mut i = 0;
-    while i < n {
+    for i in 0..table::fields_in(edition) {
         let r = table::row_at(edition, i as u16);
-        let width = r.width;
-        f[i] = little::number_at(b, r.offset as usize, width);
-        i += 1;
+        f[i] = little::number_at(b, r.offset as usize, r.width);
     }
     f
 }
@@ -61,23 +56,21 @@ fn refusal_at(offset: u32) -> Refusal
     ensures { result ≡ refusal_at offset }
 {
     if offset < 16 {
-        return Refusal::ImageHeader;
+        Refusal::ImageHeader
+    } else {
+        Refusal::ImageField(offset)
     }
-    Refusal::ImageField(offset)
 }
 
 // The lowest field at fault.
 fn check_fields(edition: Known, f: &[u32; FIELDS]) -> Answer
     ensures { result ≡ fields_answer (known_edition edition) f.now (field_count edition) 0 }
 {
-    let n = table::fields_in(edition);
-    let mut i = 0;
-    while i < n {
+    for i in 0..table::fields_in(edition) {
         let r = table::row_at(edition, i as u16);
         if table::at_fault(r, f[SHIFT], f[i]) {
             return Answer::Refused(refusal_at(r.offset));
         }
-        i += 1;
     }
     Answer::Accepted
 }
@@ -92,18 +85,17 @@ pub fn write_image(u: Vsu, out: &mut [u8]) -> Answer
     if out.len() < SIZE {
         return Answer::Refused(Refusal::Room);
     }
-    let f = fields::fields_of(u);
-    put_fields(out, &f);
+    put_fields(out, &fields::fields_of(u));
     Answer::Accepted
 }
 
 // Handed back: "a refused image the power-on state".
+#[tactic(auto, unfolding(crate::specs::Image::loaded_by))]
 fn refused(why: Refusal) -> Loaded
     ensures { result ≡ loaded_by (Answer.Refused why) [] }
 {
-    let u = unit::new();
     Loaded {
-        state: u,
+        state: unit::new(),
         answer: Answer::Refused(why),
     }
 }
@@ -117,15 +109,11 @@ pub fn read_image(b: &[u8]) -> Loaded
     }
     let edition = edition_in(b);
     let f = take_fields(edition, b);
-    let a = check_fields(edition, &f);
-    match a {
+    match check_fields(edition, &f) {
         Answer::Refused(why) => refused(why),
-        Answer::Accepted => {
-            let u = fields::state_of(f);
-            Loaded {
-                state: u,
-                answer: Answer::Accepted,
-            }
-        }
+        Answer::Accepted => Loaded {
+            state: fields::state_of(f),
+            answer: Answer::Accepted,
+        },
     }
 }

@@ -9,4 +9,4 @@ pub returns-then-out-lt-SIZE : goal.returns-then-out-lt-SIZE
 returns-then-out-lt-SIZE c = laws.wrote-room c.args.u c.args.out.now (sym c.in_range.ensures ∙ c.if-not-in_range.false) c.if-out-lt-SIZE.true
 
 pub returns : goal.returns
-returns c = laws.wrote c.args.u c.args.out.now (sym c.in_range.ensures ∙ c.if-not-in_range.false) c.if-out-lt-SIZE.false c.fields_of-f.ensures c.put_fields.ensures
+returns c = laws.wrote c.args.u c.args.out.now (sym c.in_range.ensures ∙ c.if-not-in_range.false) c.if-out-lt-SIZE.false c.fields_of.ensures c.put_fields.ensures
