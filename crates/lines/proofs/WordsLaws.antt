@@ -1,76 +1,69 @@
 -- Laws of specs/Words.antt: digits read one by one, and what begins with 0x.
-use Prim.Native.Nat.{ℕ, ◌+◌, ◌-◌, ◌*◌, ◌<◌, ◌≤◌}
-use mathlib.Core.Path.{◌≡◌, sym, ap, ◌∙◌}
-use mathlib.Core.Bool.{Bool, cond, true, false, true≢false, and-eq-true_iff}
+use Prim.Native.Nat.{ℕ, ◌+◌, ◌*◌, ◌<◌, ◌≤◌}
+use mathlib.Core.Path.{◌≡◌, refl, sym, ap, ◌∙◌}
+use mathlib.Core.Bool.{cond, not}
 use mathlib.Core.List.{List, [], ◌∷◌}
-use native.Mathlib.Nat.{add-zero, mul-le-mul}
 use native.Mathlib.Numerals.{add-one}
 use native.Mathlib.Omega.{arith}
-use borrow.Author.Tests.{lt-ltb, le-ltb, le-leb, lt-leb, leb-true, ne_eqb}
+use borrow.Author.Tests.{lt-ltb, le-ltb, le-leb, lt-leb, ne_eqb, tests}
 use lib.Dec.{eqb}
-use lib.ListN.{get_or, drop, length, take, length-take, length-drop, drop_of_length-le}
-use lib.Seq.{drop-cons, take_all}
-use Rattle.lines.specs.declared.words.Number.{Number}
-use Rattle.lines.specs.declared.words.Number.TheVariants.{Value, Not}
-use Rattle.lines.specs.Words.{Begins, space_of, within, digit_of, read_on, marks_hex}
+use lib.Pointwise.{pointwise}
+use Rattle.std.specs.Prelude.{nat_lt}
+use Rattle.std.specs.List.{position}
+use Rattle.std.proofs.lemmas.List.Sums.{prefix_len-le-length}
+use Rattle.std.specs.Option.{unwrap_or}
+use Rattle.std.specs.Char.{digit_value}
+use Rattle.std.proofs.lemmas.List.Recursion.{is_position_or_len}
+use lib.ListN.{get_or, drop, length, take, drop_of_length-le}
+use lib.Seq.{drop-cons}
+use Rattle.std.specs.Prelude.{Option, Some, None}
+use Rattle.lines.specs.Words.{space_of, digit_of, read_on, digits_of, marks_hex}
 
--- the loop to the first space: it is here, it is further on, it is nowhere
+-- the first space is where the library's search ends
+pub space_found : (text : List ℕ) → space_of text ≡ unwrap_or (position (λ b. eqb b 32) text) (length text)
+unfolding space_of
+space_found text = rw (is_position_or_len space_of (λ b. eqb b 32) refl (λ x xs. ap (λ n. cond (eqb x 32) 0 n) (omega arith)) text) (found _ _ (prefix_len-le-length (λ b. not (eqb b 32)) text))
+  where
+    found : (k n : ℕ) → k ≤ n → k ≡ unwrap_or (cond (nat_lt k n) (Some k) None) n
+    found k n h = grind (arith, h)
 
-module _ (text : List ℕ) (at : ℕ) (e : space_of text ≡ at + space_of (drop at text)) where
-  module _ (h : at < length text) where
-    pub space-here : get_or text at 0 ≡ 32 → at ≡ space_of text
-    unfolding space_of
-    space-here p = sym (e ∙ rw (drop-cons text at 0 h, p) (add-zero at))
+-- a digit to a base of 16 at most is the library's
+pub digit-same : (b base : ℕ) → base ≤ 16 → digit_value b < base → digit_of b ≡ digit_value b
+unfolding digit_of
+digit-same b base h g = grind (arith, tests)
 
-    pub space-later : (get_or text at 0 ≡ 32 → ⊥) → space_of text ≡ at + 1 + space_of (drop (at + 1) text)
-    unfolding space_of
-    space-later n = e ∙ rw (drop-cons text at 0 h, ne_eqb (get_or text at 0) 32 n, add-one at) (omega arith)
-
-  pub space-nowhere : length text ≤ at → at ≡ space_of text
-  unfolding space_of
-  space-nowhere h = sym (e ∙ rw (drop_of_length-le text h) (add-zero at))
+pub digit-other : (b base : ℕ) → base ≤ 16 → base ≤ digit_value b → base ≤ digit_of b
+unfolding digit_of
+digit-other b base h g = grind (arith, tests)
 
 -- the loop over digits: a turn of it, its two ways out before the end, and its end
 
-module _ (base : ℕ) (text : List ℕ) (i n : ℕ) {r : Number} (e : r ≡ read_on base n (drop i text)) where
-  module _ (h : i < length text) {d : ℕ} (p : d ≡ digit_of (get_or text i 0)) where
-    pub read_more : d < base → base * n + d ≤ 4294967295 → r ≡ read_on base (base * n + d) (drop (i + 1) text)
+module _ (base most : ℕ) (text : List ℕ) where
+  pub counted : {r : Option ℕ} → 0 < length text → length text ≤ most → read_on base 0 text ≡ r → r ≡ digits_of base most text
+  counted h g e = rw (ne_eqb (length text) 0 (λ z. omega (arith, z, h)), le-ltb most (length text) g) (sym e)
+
+  module _ (i n : ℕ) (e : read_on base 0 text ≡ read_on base n (drop i text)) where
+    module _ (g : base ≤ 16) (h : i < length text) where
+      pub read_more : digit_value (get_or text i 0) < base → base * n + digit_value (get_or text i 0) < 4294967296
+          → read_on base 0 text ≡ read_on base (base * n + digit_value (get_or text i 0)) (drop (i + 1) text)
+      unfolding read_on
+      read_more a b = e ∙ rw (drop-cons text i 0 h, add-one i, digit-same (get_or text i 0) base g a, lt-ltb _ base a, le-leb (base * n + digit_value (get_or text i 0)) 4294967295 (omega (arith, b)))
+
+      pub read-other : base ≤ digit_value (get_or text i 0) → read_on base 0 text ≡ None
+      unfolding read_on
+      read-other a = e ∙ rw (drop-cons text i 0 h, le-ltb (digit_of (get_or text i 0)) base (digit-other (get_or text i 0) base g a))
+
+      pub read-over : digit_value (get_or text i 0) < base → 4294967296 ≤ base * n + digit_value (get_or text i 0) → read_on base 0 text ≡ None
+      unfolding read_on
+      read-over a b = e ∙ rw (drop-cons text i 0 h, digit-same (get_or text i 0) base g a, lt-ltb _ base a, lt-leb (base * n + digit_value (get_or text i 0)) 4294967295 (omega (arith, b)))
+
+    pub read_all : length text ≤ i → read_on base 0 text ≡ Some n
     unfolding read_on
-    read_more a b = e ∙ rw (drop-cons text i 0 h, add-one i, ← p, lt-ltb d base a, le-leb (base * n + d) 4294967295 b)
+    read_all h = e ∙ rw (drop_of_length-le text h)
 
-    pub read-other : base ≤ d → r ≡ Not
-    unfolding read_on
-    read-other a = e ∙ rw (drop-cons text i 0 h, ← p, le-ltb d base a)
-
-    pub read-over : d < base → 4294967295 < base * n + d → r ≡ Not
-    unfolding read_on
-    read-over a b = e ∙ rw (drop-cons text i 0 h, ← p, lt-ltb d base a, lt-leb (base * n + d) 4294967295 b)
-
-  pub read_all : length text ≤ i → r ≡ Value n
-  unfolding read_on
-  read_all h = e ∙ rw (drop_of_length-le text h)
-
--- where the digits were counted
-pub of_size : {b : Bool} {r s : Number} → b ≡ false → s ≡ r → r ≡ cond b Not s
-of_size p q = rw (p, q)
-
-pub below : {base n : ℕ} → base ≤ 16 → n ≤ 4294967295 → base * n ≤ 68719476720
-below h g = mul-le-mul h g
-
-pub two : (text : List ℕ) → marks_hex text ≡ true → 2 ≤ length text
+-- what begins with 0x, as the library compares it
+pub marks_is : (text : List ℕ) → pointwise eqb (take 2 text) (48 ∷ 120 ∷ []) ≡ marks_hex text
 unfolding marks_hex
-two [] h = absurd (true≢false (sym h))
-two (a ∷ []) h = absurd (true≢false (sym ((and-eq-true_iff (eqb a 48) false).0 h).1))
-two (a ∷ b ∷ text) h = omega arith
-
--- all that is behind a place
-pub rest : (k : ℕ) (text : List ℕ) → take (length text - k) (drop k text) ≡ drop k text
-rest k text = take_all (length text - k) (drop k text) (omega (arith, length-drop k text))
-
-pub low_end : (low high b : ℕ) → within low high b ≡ true → low ≤ b
-low_end low high b h = leb-true low b ((and-eq-true_iff _ _).0 h).0
-
--- a line that is shorter than the word
-pub too_short : (line word : List ℕ) → length line < length word → (false ≡ true → Begins line word) × ((Begins line word → false ≡ true) × (false ≡ true → length word ≤ length line))
-too_short line word h =
-    (λ p. absurd (true≢false (sym p)), (λ p. absurd (omega (arith, ap length p, length-take (length word) line)), λ p. absurd (true≢false (sym p))))
+marks_is [] = refl
+marks_is (a ∷ []) = refl
+marks_is (a ∷ b ∷ text) = grind (arith, tests)

@@ -1,7 +1,5 @@
 -- What a line begins with, and the numbers that people type.
-use Rattle.std.specs.Prelude.{ℕ, suc, ◌+◌, ◌*◌, ◌-◌, Bool, cond, ◌&&◌, ◌||◌, ◌≡◌, List, [], ◌∷◌, eqb, leb, ltb, get_or, length, take, drop}
-use Rattle.lines.specs.declared.words.Number.{Number}
-use Rattle.lines.specs.declared.words.Number.TheVariants.{Value, Not}
+use Rattle.std.specs.Prelude.{ℕ, suc, ◌+◌, ◌*◌, ◌-◌, Bool, cond, ◌&&◌, ◌||◌, ◌≡◌, List, [], ◌∷◌, eqb, leb, ltb, get_or, length, take, drop, Option, Some, None}
 
 -- a line begins with a word
 abbrev pub Begins : List ℕ → List ℕ → Type 0
@@ -20,17 +18,17 @@ unfoldable pub digit_of : ℕ → ℕ
 digit_of b = cond (within 48 57 b) (b - 48) (cond (within 65 70 b) (b - 55) (cond (within 97 102 b) (b - 87) 16))
 
 -- the number that digits to a base go on to make; none where a byte is no such digit or the number is above 4,294,967,295
-unfoldable pub read_on : ℕ → ℕ → List ℕ → Number
-read_on base n [] = Value n
+unfoldable pub read_on : ℕ → ℕ → List ℕ → Option ℕ
+read_on base n [] = Some n
 read_on base n (b ∷ bs) =
-    cond (ltb (digit_of b) base && leb (base * n + digit_of b) 4294967295) (read_on base (base * n + digit_of b) bs) Not
+    cond (ltb (digit_of b) base && leb (base * n + digit_of b) 4294967295) (read_on base (base * n + digit_of b) bs) None
 
 -- 1 to `most` digits
-abbrev pub digits_of : ℕ → ℕ → List ℕ → Number
-digits_of base most text = cond (eqb (length text) 0 || ltb most (length text)) Not (read_on base 0 text)
+abbrev pub digits_of : ℕ → ℕ → List ℕ → Option ℕ
+digits_of base most text = cond (eqb (length text) 0 || ltb most (length text)) None (read_on base 0 text)
 
 -- "1 to 10 decimal digits up to 4,294,967,295 (leading zeros allowed)"
-abbrev pub decimal_of : List ℕ → Number
+abbrev pub decimal_of : List ℕ → Option ℕ
 decimal_of text = digits_of 10 10 text
 
 -- begins with 0x (48, 120)
@@ -38,5 +36,5 @@ unfoldable pub marks_hex : List ℕ → Bool
 marks_hex text = eqb (get_or text 0 0) 48 && eqb (get_or text 1 0) 120
 
 -- "or `0x` and 1 to 8 hex digits of either case"
-unfoldable pub number_of : List ℕ → Number
+unfoldable pub number_of : List ℕ → Option ℕ
 number_of text = cond (marks_hex text) (digits_of 16 8 (drop 2 text)) (decimal_of text)

@@ -1,38 +1,34 @@
--- What is read so far goes on to what the definition reads.
-use mathlib.Core.Path.{refl}
-use native.Mathlib.Omega.{arith}
-use borrow.Author.Rules.{rules}
-use Rattle.lines.proofs.WordsLaws.{read_more, read-other, read-over, read_all, of_size, below}
+use Rattle.std.proofs.Common.{rules}
+use Rattle.lines.proofs.WordsLaws.{counted, read_more, read-other, read-over, read_all}
 use Rattle.lines.proofs.words.digits.Goals as goal
 
-pub returns-then-text-most : goal.returns-then-text-most
-returns-then-text-most c = rw c.if-text-most.true
+pub returns-in_err-d : goal.returns-in_err-d
+returns-in_err-d c =
+    let a = c.args in
+    let l = c.loop-byte in
+    rw c.from_residual.ensures (counted a.base a.most a.text.now (search rules) (search rules) (read-other a.base a.most a.text.now l.byte-index l.n l.invariant (search rules) (search rules) (search rules)))
 
-pub loop-i-init : goal.loop-i-init
-loop-i-init c = (search rules, refl)
+pub returns-in_err-checked_mul : goal.returns-in_err-checked_mul
+returns-in_err-checked_mul c =
+    let a = c.args in
+    let l = c.loop-byte in
+    rw c.from_residual-in_err-checked_mul.ensures (counted a.base a.most a.text.now (search rules) (search rules) (read-over a.base a.most a.text.now l.byte-index l.n l.invariant (search rules) (search rules) (search rules) (search rules)))
 
-pub returns-then-d-base : goal.returns-then-d-base
-returns-then-d-base c =
-    of_size
-    c.if-text-most.false
-    (read-other _ _ c.loop-i.i c.loop-i.n c.loop-i.invariant.1 (search rules) c.digit-d.ensures (search rules))
+pub returns-in_err-n : goal.returns-in_err-n
+returns-in_err-n c =
+    let a = c.args in
+    let l = c.loop-byte in
+    rw c.from_residual-in_err-n.ensures (counted a.base a.most a.text.now (search rules) (search rules) (read-over a.base a.most a.text.now l.byte-index l.n l.invariant (search rules) (search rules) (search rules) (search rules)))
 
-pub overflow_mul-n : goal.overflow_mul-n
-overflow_mul-n c = record { fits = omega (arith, below c.requires c.loop-i.invariant.0) }
-
-pub overflow_add-n : goal.overflow_add-n
-overflow_add-n c = record { fits = omega (arith, below c.requires c.loop-i.invariant.0) }
-
-pub returns-then-n-gt4294967295 : goal.returns-then-n-gt4294967295
-returns-then-n-gt4294967295 c =
-    of_size
-    c.if-text-most.false
-    (read-over _ _ c.loop-i.i c.loop-i.n c.loop-i.invariant.1 (search rules) c.digit-d.ensures (search rules) (search rules))
-
-pub loop-i-preserved : goal.loop-i-preserved
-loop-i-preserved c =
-    (search rules, read_more _ _ c.loop-i.i c.loop-i.n c.loop-i.invariant.1 (search rules) c.digit-d.ensures (search rules) (search rules))
+pub loop-byte-preserved : goal.loop-byte-preserved
+loop-byte-preserved c =
+    let a = c.args in
+    let l = c.loop-byte in
+    let e = read_more a.base a.most a.text.now l.byte-index l.n l.invariant (search rules) (search rules) (search rules) (search rules) in
+    rw (c.in_ok-n.ensures.1, c.in_ok-checked_mul.ensures.1, c.in_ok-d.ensures.value.1, c.from.ensures) e
 
 pub returns : goal.returns
 returns c =
-    of_size c.if-text-most.false (read_all _ _ c.loop-i.i c.loop-i.n c.loop-i.invariant.1 (search rules))
+    let a = c.args in
+    let l = c.loop-byte in
+    counted a.base a.most a.text.now (search rules) (search rules) (read_all a.base a.most a.text.now l.byte-index l.n l.invariant (search rules))
