@@ -1,15 +1,7 @@
 // What is said of a line, on standard error, and the log on standard output.
 use refusal::Refusal;
 use report::streams::{STDERR_FILENO, STDOUT_FILENO};
-use report::text;
-
-// Of more bytes than there are, which nothing here asks for, none.
-fn put(fd: i32, bytes: &[u8], size: usize) -> bool {
-    if size > bytes.len() {
-        return false;
-    }
-    io::write_all(fd, &bytes[..size])
-}
+use report::{out, text};
 
 // Where the line stands, at the text's front.
 fn placed(text: &mut [u8], k: u64) -> usize {
@@ -22,14 +14,14 @@ pub(crate) fn refused(k: u64, why: Refusal) {
     let at = placed(&mut text, k);
     let end = text::refused(&mut text, at, why);
     let next = text::words(&mut text, end, b"\n");
-    put(STDERR_FILENO, &text, next);
+    out::front(STDERR_FILENO, &text, next);
 }
 
 pub(crate) fn unknown(k: u64) {
     let mut text = [0u8; 64];
     let at = placed(&mut text, k);
     let next = text::words(&mut text, at, b"unknown\n");
-    put(STDERR_FILENO, &text, next);
+    out::front(STDERR_FILENO, &text, next);
 }
 
 pub(crate) fn unread() {
@@ -41,7 +33,7 @@ pub(crate) fn unfinished() {
 }
 
 pub(crate) fn log(buffer: &[u8], size: usize) {
-    if !put(STDOUT_FILENO, buffer, size) {
+    if !out::front(STDOUT_FILENO, buffer, size) {
         io::write_all(STDERR_FILENO, b"record: standard output can't be written\n");
     }
 }
