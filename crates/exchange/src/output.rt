@@ -12,8 +12,8 @@ fn labelled(words: &[u8], n: u64) -> bool {
 // The address always as four digits.
 fn write(words: &[u8], address: u32, byte: u8) -> bool {
     io::write_all(STDOUT_FILENO, words)
-        & io::print_hex(STDOUT_FILENO, address as u64, 4)
-        & labelled(b" ", byte as u64)
+        & io::print_hex(STDOUT_FILENO, u64::from(address), 4)
+        & labelled(b" ", u64::from(byte))
 }
 
 pub(crate) fn pair(p: Pair) -> bool {
@@ -40,31 +40,25 @@ fn led(lead: Lead) -> bool {
     }
 }
 
-fn differs(d: Difference) -> bool {
+fn differs(d: Option<Difference>) -> bool {
     match d {
-        Difference::At {
-            at,
-            given,
-            exchanged,
-        } => {
-            labelled(b": byte ", at as u64)
-                & labelled(b" of the image is ", given as u64)
-                & labelled(b" or ", exchanged as u64)
+        Some(d) => {
+            labelled(b": byte ", d.at as u64)
+                & labelled(b" of the image is ", u64::from(d.given))
+                & labelled(b" or ", u64::from(d.exchanged))
         }
-        Difference::Nowhere => io::write_all(STDOUT_FILENO, b": no byte of the image differs"),
+        None => io::write_all(STDOUT_FILENO, b": no byte of the image differs"),
     }
 }
 
-pub(crate) fn no(lead: Lead, d: Difference) -> bool {
+pub(crate) fn no(lead: Lead, d: Option<Difference>) -> bool {
     led(lead) & differs(d) & io::write_all(STDOUT_FILENO, b"\n")
 }
 
 // A comment and an empty line as they are.
 pub(crate) fn no_pair(line: &[u8]) -> bool {
-    if line.len() > 0 {
-        if line[0] != b'#' {
-            return io::write_all(STDOUT_FILENO, b"unknown\n");
-        }
+    if !line.is_empty() && line[0] != b'#' {
+        return io::write_all(STDOUT_FILENO, b"unknown\n");
     }
     io::write_all(STDOUT_FILENO, line) & io::write_all(STDOUT_FILENO, b"\n")
 }

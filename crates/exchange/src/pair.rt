@@ -1,6 +1,5 @@
-// A line as a pair of writes. A line that is not exactly one, as by a second space or a sign, is `Not`.
+// A line as a pair of writes. A line that is not exactly one, as by a second space or a sign, is none.
 use lines::words;
-use lines::words::Number;
 
 // A byte to an address, and a value to another.
 #[derive(Clone, Copy)]
@@ -11,59 +10,24 @@ pub(crate) struct Pair {
     pub(crate) value: u8,
 }
 
-#[derive(Clone, Copy)]
-pub(crate) enum Found {
-    Writes(Pair),
-    Not,
+// At most 65,535, as in a log.
+fn address(text: &[u8]) -> Option<u32> {
+    words::decimal_or_hex(text).filter(|&n| n <= 65_535)
 }
 
-// The largest number, which is neither an address nor a byte, where none stands.
-fn number(text: &[u8]) -> u32 {
-    let n = words::decimal_or_hex(text);
-    let Number::Value(v) = n else {
-        return u32::MAX;
-    };
-    v
-}
-
-// The number before the first space.
-fn front(text: &[u8]) -> u32 {
-    let k = words::space(text);
-    number(&text[0..k])
-}
-
-// What stands behind the first space: where there is none, nothing, which is no number.
-fn behind(text: &[u8]) -> &[u8] {
-    let k = words::space(text);
-    if k < text.len() {
-        return &text[k + 1..];
-    }
-    &text[k..]
-}
-
-// An address is at most 65,535, as in a log, and a byte 255.
-fn ranged(address: u32, byte: u32, other: u32, value: u32) -> Found {
-    if (address > 65_535) | (other > 65_535) {
-        return Found::Not;
-    }
-    if byte > 255 {
-        return Found::Not;
-    }
-    if value > 255 {
-        return Found::Not;
-    }
-    Found::Writes(Pair {
-        address: address,
-        byte: byte as u8,
-        other: other,
-        value: value as u8,
-    })
+fn byte(text: &[u8]) -> Option<u8> {
+    u8::try_from(words::decimal_or_hex(text)?).ok()
 }
 
 // `ADDRESS BYTE ADDRESS BYTE`
-pub(crate) fn pair_of(line: &[u8]) -> Found {
-    let second = behind(line);
-    let third = behind(second);
-    let fourth = behind(third);
-    ranged(front(line), front(second), front(third), number(fourth))
+pub(crate) fn pair_of(line: &[u8]) -> Option<Pair> {
+    let (first, rest) = words::first_word(line);
+    let (second, rest) = words::first_word(rest);
+    let (third, fourth) = words::first_word(rest);
+    Some(Pair {
+        address: address(first)?,
+        byte: byte(second)?,
+        other: address(third)?,
+        value: byte(fourth)?,
+    })
 }

@@ -5,10 +5,10 @@ use vsu::unit;
 
 // The lowest byte that differs: its number, and its values in the order as given and in the other.
 #[derive(Clone, Copy)]
-pub(crate) enum Difference {
-    At { at: u32, given: u8, exchanged: u8 },
-    // Never, by the theorem and since an image reads back as its state; not proved here.
-    Nowhere,
+pub(crate) struct Difference {
+    pub(crate) at: usize,
+    pub(crate) given: u8,
+    pub(crate) exchanged: u8,
 }
 
 // A byte to an address, 0x80 to `start`, and then the pair. The one function over a unit, and without a loop: such functions are what costs
@@ -37,24 +37,21 @@ fn image_of(lead: Lead, p: Pair) -> [u8; 420] {
     }
 }
 
-fn lowest(given: [u8; 420], exchanged: [u8; 420]) -> Difference {
-    let mut at = 0;
-    while at < 420 {
-        let a = given[at];
-        let b = exchanged[at];
-        if a != b {
-            return Difference::At {
-                at: at as u32,
-                given: a,
-                exchanged: b,
-            };
+fn lowest(given: [u8; 420], exchanged: [u8; 420]) -> Option<Difference> {
+    for at in 0..420 {
+        if given[at] != exchanged[at] {
+            return Some(Difference {
+                at,
+                given: given[at],
+                exchanged: exchanged[at],
+            });
         }
-        at += 1;
     }
-    Difference::Nowhere
+    None
 }
 
-pub(crate) fn shown(lead: Lead, p: Pair) -> Difference {
+// Some, by the theorem and since an image reads back as its state; not proved here.
+pub(crate) fn shown(lead: Lead, p: Pair) -> Option<Difference> {
     let exchanged = Pair {
         address: p.other,
         byte: p.value,
