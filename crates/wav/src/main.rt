@@ -7,12 +7,13 @@ mod riff;
 ghost use Rattle.std.specs.Prelude.{◌≤◌, length};
 
 use deck::Player;
-use lines::words::{Number, behind};
+use lines::words::behind;
 use refusal::Refusal;
 use register_log::Checked;
 use report::streams::{STDERR_FILENO, STDIN_FILENO, STDOUT_FILENO};
 use report::terminal::Terminals;
-use report::{print, progress, terminal, text};
+use report::work::Work;
+use report::{out, print, terminal};
 
 // A log of any length is played in plays of at most 1,024 frames: their cycles.
 const SPAN: u32 = 480 * 1024;
@@ -22,36 +23,16 @@ const MOST: usize = 1_048_576;
 
 const LINE: usize = 16;
 
-// The player, whether all that it played is written, and how much was last told to be done.
-#[derive(Clone, Copy)]
-struct Playing {
-    player: Player,
-    written: bool,
-    told: u32,
-}
-
-// Of more bytes than there are, which nothing here asks for, none.
-fn front(fd: i32, bytes: &[u8], size: usize) -> bool {
-    if size > bytes.len() {
-        return false;
-    }
-    io::write_all(fd, &bytes[..size])
-}
-
-// n cycles, at most a span and not beyond L: so the play is never refused.
-fn play(s: Playing, n: u32, log: &[u8], cycles: u32, terminals: Terminals) -> Playing {
+// n cycles, at most a span and not beyond L: so the play is never refused. Whether all its frames are written.
+fn play(p: &mut Player, n: u32, log: &[u8], work: &mut Work) -> bool {
     let mut sides = [0i16; 2048];
     let mut bytes = [0u8; 4096];
-    let p = s.player;
-    let r = player::play(p, n, log, &mut sides);
-    let q = r.player;
+    let r = player::play(*p, n, log, &mut sides);
+    *p = r.player;
     let size = riff::frames(&mut bytes, &sides, r.frames);
-    let written = front(STDOUT_FILENO, &bytes, size);
-    Playing {
-        player: q,
-        written: written,
-        told: progress::show(s.told, q.cycle, cycles, terminals),
-    }
+    let written = out::front(STDOUT_FILENO, &bytes, size);
+    work.tell(p.cycle);
+    written
 }
 
 // A record at the log's beginning, with these mutes; those of more than six bits have been refused.
@@ -62,25 +43,16 @@ fn begun(log: &[u8], mutes: u32) -> Player {
     m.player
 }
 
-// Whether all frames are written. A log of one span is done before there is anything to tell: hence the 100 at first.
+// Whether all frames are written.
 fn frames(log: &[u8], cycles: u32, mutes: u32, terminals: Terminals) -> bool {
-    let p = begun(log, mutes);
-    let mut s = Playing {
-        player: p,
-        written: true,
-        told: 100,
-    };
-    let spans = cycles / SPAN;
-    let mut i = 0;
-    while i < spans {
-        s = play(s, SPAN, log, cycles, terminals);
-        if !s.written {
+    let mut p = begun(log, mutes);
+    let mut work = Work::new(cycles, terminals);
+    for _ in 0..cycles / SPAN {
+        if !play(&mut p, SPAN, log, &mut work) {
             return false;
         }
-        i += 1;
     }
-    let last = play(s, cycles % SPAN, log, cycles, terminals);
-    last.written
+    play(&mut p, cycles % SPAN, log, &mut work)
 }
 
 fn sound(log: &[u8], cycles: u32, mutes: u32, terminals: Terminals) -> bool {
@@ -90,10 +62,7 @@ fn sound(log: &[u8], cycles: u32, mutes: u32, terminals: Terminals) -> bool {
 }
 
 fn refused(why: Refusal) {
-    let mut line = [0u8; 64];
-    let a = text::refused(&mut line, 0, why);
-    let b = text::words(&mut line, a, b"\n");
-    front(STDERR_FILENO, &line, b);
+    out::refused(STDERR_FILENO, why);
 }
 
 fn convert(log: &[u8], mutes: u32, terminals: Terminals) {
@@ -122,26 +91,21 @@ fn limited(log: &[u8], mutes: u32, terminals: Terminals) {
 fn line_end(input: &[u8]) -> usize
     ensures { result ≤ length input.now }
 {
-    let mut at = 0;
-    while at < input.len() {
-        if (input[at] == b'\n') | (at == LINE - 1) {
-            return at;
-        }
-        at += 1;
-    }
-    at
+    let front = &input[..input.len().min(LINE - 1)];
+    front
+        .iter()
+        .position(|&b| b == b'\n')
+        .unwrap_or(front.len())
 }
 
 // Any other first line is the log's own.
 fn split(input: &[u8], terminals: Terminals) {
     let end = line_end(input);
     let bits = behind(&input[..end], b"mute ");
-    if let Number::Value(mutes) = bits {
-        if end < input.len() {
-            if input[end] == b'\n' {
-                limited(&input[end + 1..], mutes, terminals);
-                return;
-            }
+    if let Some(mutes) = bits {
+        if end < input.len() && input[end] == b'\n' {
+            limited(&input[end + 1..], mutes, terminals);
+            return;
         }
     }
     limited(input, 0, terminals);

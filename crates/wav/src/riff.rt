@@ -41,15 +41,9 @@ pub(crate) fn header(out: &mut [u8], cycles: u32) {
 // The bytes of a play's frames, as they are: no smoothing and no scaling. The answer is their number. No play here makes more
 // than 1,024 frames; the test says so to the checker.
 pub(crate) fn frames(out: &mut [u8], sides: &[i16; 2048], made: u32) -> usize {
-    let end = if made < 1024 {
-        2 * (made as usize)
-    } else {
-        2048
-    };
-    let mut i: usize = 0;
-    while i < end {
+    let end = 2 * (made.min(1024) as usize);
+    for i in 0..end {
         little::put(out, 2 * i, Width::U16, sum::side(sides[i]));
-        i += 1;
     }
     2 * end
 }
