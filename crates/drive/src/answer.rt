@@ -92,8 +92,8 @@ pub(crate) fn told(
         applied: p.applied,
         marks: player::marks_set(p),
         free: player::lowest_free(p),
-        frames: frames,
-        counts: counts,
+        frames,
+        counts,
         slot: slot_of(call, free),
         sum: sum_of(call, frames, memory, sides),
     }
@@ -130,8 +130,7 @@ fn moved(call: Call, text: &mut [u8]) -> usize {
 // A call that tells the record last.
 fn did(call: Call, n: Numbers, text: &mut [u8]) -> usize {
     match call {
-        Call::Set(_) => labelled(text, 0, b"set ", n.slot),
-        Call::SetFree => labelled(text, 0, b"set ", n.slot),
+        Call::Set(_) | Call::SetFree => labelled(text, 0, b"set ", n.slot),
         Call::Mute(bits) => labelled(text, 0, b"muted ", bits),
         _ => moved(call, text),
     }

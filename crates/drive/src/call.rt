@@ -1,6 +1,6 @@
 // A line as a call. A line that is not exactly one, as by another case, a second space or a sign, is `Unknown`.
 use check::same;
-use lines::words::{Number, behind};
+use lines::words::behind;
 
 #[derive(Clone, Copy)]
 pub(crate) enum Call {
@@ -18,41 +18,30 @@ pub(crate) enum Call {
 
 // A call with a slot.
 fn marking(line: &[u8]) -> Call {
-    let set = behind(line, b"set ");
-    if let Number::Value(slot) = set {
+    if let Some(slot) = behind(line, b"set ") {
         return Call::Set(slot);
     }
-    let clear = behind(line, b"clear ");
-    if let Number::Value(slot) = clear {
+    if let Some(slot) = behind(line, b"clear ") {
         return Call::Clear(slot);
     }
-    let go_to = behind(line, b"goto ");
-    if let Number::Value(slot) = go_to {
+    if let Some(slot) = behind(line, b"goto ") {
         return Call::GoTo(slot);
     }
     Call::Unknown
 }
 
-// A call with mute bits, else one with a slot.
-fn muting(line: &[u8]) -> Call {
-    let mute = behind(line, b"mute ");
-    if let Number::Value(bits) = mute {
+// A call with a cycle, a number of cycles or mute bits, else one with a slot.
+fn moving(line: &[u8]) -> Call {
+    if let Some(cycles) = behind(line, b"play ") {
+        return Call::Play(cycles);
+    }
+    if let Some(target) = behind(line, b"seek ") {
+        return Call::Seek(target);
+    }
+    if let Some(bits) = behind(line, b"mute ") {
         return Call::Mute(bits);
     }
     marking(line)
-}
-
-// A call with a cycle or a number of cycles, else another with a number.
-fn moving(line: &[u8]) -> Call {
-    let play = behind(line, b"play ");
-    if let Number::Value(cycles) = play {
-        return Call::Play(cycles);
-    }
-    let seek = behind(line, b"seek ");
-    if let Number::Value(target) = seek {
-        return Call::Seek(target);
-    }
-    muting(line)
 }
 
 pub(crate) fn call_of(line: &[u8]) -> Call {

@@ -3,26 +3,18 @@ use crate::answer::Numbers;
 use crate::call::Call;
 use crate::{answer, call, failure, output};
 use deck::{MEMORY_SIZE, Player};
-use lines::input;
-use lines::input::Input;
+use lines::reader::Reader;
 use refusal::Answer;
 use report::text;
-use std::io::{Read, Result, Stdin, Stdout};
+use std::io::{Stdin, Stdout};
 
-fn call_in(line: &[u8; 17], kept: usize) -> Call {
-    let front: &[u8] = line;
-    if kept < front.len() {
-        return call::call_of(&front[..kept]);
+// A line that fills the 17 bytes that are kept of it, one more than the longest call, `clear 4294967295`, has, is no call, however long it is.
+fn call_in(line: &[u8]) -> Call {
+    if line.len() < 17 {
+        call::call_of(line)
+    } else {
+        Call::Unknown
     }
-    Call::Unknown
-}
-
-fn put(to: Stdout, text: &[u8; 1024], end: usize) {
-    output::put(to, text, end);
-}
-
-fn newline(text: &mut [u8; 1024], at: usize) -> usize {
-    text::words(text, at, b"\n")
 }
 
 // The longest line, an image's, has 847 bytes.
@@ -32,8 +24,8 @@ fn tell(to: Stdout, call: Call, a: Answer, n: Numbers, image: &[u8]) {
         Answer::Accepted => answer::accepted(call, n, image, &mut text),
         Answer::Refused(why) => answer::refused(why, n, &mut text),
     };
-    let end = newline(&mut text, at);
-    put(to, &text, end);
+    let end = text::words(&mut text, at, b"\n");
+    output::put(to, &text, end);
 }
 
 fn answered(
@@ -55,41 +47,24 @@ fn answered(
     q
 }
 
-fn failed(got: Result<usize>) -> bool {
-    if let Err(why) = got {
-        failure::told(b"standard input", why);
-        return true;
-    }
-    false
-}
-
-// The next byte, or, where all that were read are used, the next read.
-fn next(i: Input, mut from: Stdin, bytes: &mut [u8; 4096], line: &mut [u8; 17]) -> Input {
-    if i.at < i.size {
-        return input::stepped(i, bytes, line);
-    }
-    let got = from.read(bytes);
-    input::filled(i, got.unwrap_or(0), failed(got))
-}
-
-// A line is the bytes up to a newline; a rest without one at the end is a line too. The frame buffer holds 32,768 frames. A line that
-// fills the 17 bytes of its front, one more than the longest call, `clear 4294967295`, has, is no call, however long it is. Nothing says
-// that the input ends, so the loop counts its turns down, from a number that no run uses up.
+// The frame buffer holds 32,768 frames. Nothing says that the input ends, so the loop counts its turns, to a number that no run uses up.
 pub(crate) fn run(from: Stdin, to: Stdout, log: &[u8]) {
-    let mut bytes = [0u8; 4096];
+    let mut reader = Reader::new(from);
     let mut line = [0u8; 17];
     let mut memory = [0u8; MEMORY_SIZE];
     let mut sides = [0i16; 65536];
     let t = player::open(log);
     let mut p = t.player;
-    let mut i = input::new();
-    let mut left = u64::MAX;
-    while left > 0 && i.more {
-        i = next(i, from, &mut bytes, &mut line);
-        if i.ended {
-            p = answered(to, p, call_in(&line, i.kept), log, &mut memory, &mut sides);
-            i = input::begun(i);
-        }
-        left -= 1;
+    for _ in 0..u64::MAX {
+        let kept = match reader.next_line(&mut line) {
+            Ok(Some(kept)) => kept,
+            Ok(None) => break,
+            Err(why) => {
+                failure::told(b"standard input", why);
+                break;
+            }
+        };
+        let call = call_in(&line[..kept]);
+        p = answered(to, p, call, log, &mut memory, &mut sides);
     }
 }

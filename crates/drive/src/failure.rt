@@ -28,10 +28,7 @@ fn end(reason: &[u8]) -> usize {
 }
 
 fn front(bytes: &[u8], size: usize) -> &[u8] {
-    if size < bytes.len() {
-        return &bytes[..size];
-    }
-    bytes
+    &bytes[..size.min(bytes.len())]
 }
 
 pub(crate) fn told(what: &[u8], why: Error) {

@@ -22,42 +22,17 @@ use std::str;
 // The most bytes of a log's file.
 const MOST: usize = 1_048_576;
 
-// How many bytes came, and why a read failed, if one did.
-#[derive(Clone, Copy)]
-struct Taken {
-    size: usize,
-    failed: Option<Error>,
-}
-
-fn read_some(file: &mut File, space: &mut [u8]) -> Taken
-    ensures { result.size ≤ length space.old }
-{
-    let got = file.read(space);
-    Taken {
-        size: got.unwrap_or(0),
-        failed: got.err(),
-    }
-}
-
-// A read may bring a part only, as of a pipe.
-fn read_all(file: &mut File, space: &mut [u8]) -> Taken
-    ensures { result.size ≤ length space.new }
-{
+// The bytes that came. A read may bring a part only, as of a pipe.
+fn read_all(mut file: File, space: &mut [u8]) -> Result<&[u8]> {
     let mut size = 0;
     while size < space.len() {
-        let t = read_some(file, &mut space[size..]);
-        if t.size == 0 {
-            return Taken {
-                size: size,
-                failed: t.failed,
-            };
+        let more = file.read(&mut space[size..])?;
+        if more == 0 {
+            break;
         }
-        size += t.size;
+        size += more;
     }
-    Taken {
-        size: size,
-        failed: None,
-    }
+    Ok(&space[..size])
 }
 
 fn refused(to: Stdout, why: Refusal) {
@@ -86,41 +61,25 @@ fn drive(from: Stdin, to: Stdout, log: &[u8]) {
     }
 }
 
-// Where a read failed, the reason is told. The file is closed.
-fn take_file(mut file: File, path: &[u8], space: &mut [u8]) -> Taken
-    ensures { result.size ≤ length space.new }
-{
-    let t = read_all(&mut file, space);
-    if let Some(why) = t.failed {
-        failure::told(path, why);
-    }
-    t
-}
-
-// A name is text here.
-fn open(rt: &impl Files<File = File>, path: &[u8]) -> Result<File> {
-    match str::from_utf8(path) {
-        Ok(name) => File::open(rt, name),
-        Err(_) => Err(Error::from(ErrorKind::InvalidFilename)),
-    }
+// A name is text here. The file is closed behind it.
+fn read_file<'a>(
+    rt: &impl Files<File = File>,
+    path: &[u8],
+    space: &'a mut [u8],
+) -> Result<&'a [u8]> {
+    let Ok(name) = str::from_utf8(path) else {
+        return Err(Error::from(ErrorKind::InvalidFilename));
+    };
+    read_all(File::open(rt, name)?, space)
 }
 
 // There is room for one byte more than a log may have, so that a longer one shows.
 fn drive_file(rt: &impl Files<File = File>, path: &[u8], from: Stdin, to: Stdout) {
-    let file = match open(rt, path) {
-        Ok(file) => file,
-        Err(why) => {
-            failure::told(path, why);
-            return;
-        }
-    };
     let mut space = [0u8; 1048577];
-    let t = take_file(file, path, &mut space);
-    let size = t.size;
-    if size > MOST {
-        refused(to, Refusal::Room);
-    } else if t.failed.is_none() {
-        drive(from, to, &space[..size]);
+    match read_file(rt, path, &mut space) {
+        Ok(log) if log.len() > MOST => refused(to, Refusal::Room),
+        Ok(log) => drive(from, to, log),
+        Err(why) => failure::told(path, why),
     }
 }
 

@@ -1,10 +1,8 @@
-use mathlib.Core.Path.{◌≡◌}
-use lib.ListN.{length}
-use Prim.Native.Nat.{◌-◌, ◌≤◌}
+use Rattle.std.proofs.Common.{◌-◌, ◌≤◌, length}
 use Rattle.drive.proofs.read_all.Given as goal
 
 abbrev pub invariant-loop-size : goal.invariant-loop-size
-invariant-loop-size l = (l.size ≤ length l.space) × (length l.space ≡ length l.initial.space)
+invariant-loop-size l = l.size ≤ length l.space
 
 abbrev pub decreases-loop-size : goal.decreases-loop-size
 decreases-loop-size l = length l.space - l.size
