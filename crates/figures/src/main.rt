@@ -152,9 +152,10 @@ fn buffer(out: &[i16]) {
 }
 
 fn beyond() -> Vsu {
-    let mut u = unit::new();
-    u.output = 480;
-    u
+    Vsu {
+        output: 480,
+        ..unit::new()
+    }
 }
 
 fn told(what: &[u8], a: Answer, output: u32) {

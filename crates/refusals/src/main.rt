@@ -135,10 +135,7 @@ fn given() -> Given {
 }
 
 fn to(g: Given, end: u32, sides: usize) -> Given {
-    let mut t = g;
-    t.end = end;
-    t.sides = sides;
-    t
+    Given { end, sides, ..g }
 }
 
 fn edge(c: Call, what: &[u8], g: Given) {
@@ -158,10 +155,12 @@ fn plays_to_end(g: Given) {
     edge(Call::Play, b"to L, eleven sides", to(g, 4800, 11));
     edge(Call::Play, b"beyond L, eleven sides", to(g, 4801, 11));
     edge(Call::Play, b"4294967295 cycles", to(g, 1999, 12));
-    let mut end = g;
-    end.cycle = 4800;
-    end.applied = 6;
-    end.marks = 0;
+    let end = Given {
+        cycle: 4800,
+        applied: 6,
+        marks: 0,
+        ..g
+    };
     edge(Call::Play, b"0 cycles at L", to(end, 2000, 12));
     edge(Call::Play, b"1 cycle at L", to(end, 2001, 12));
 }
@@ -210,8 +209,7 @@ fn clears(g: Given) {
         &[Damage::Behind],
     );
     edge(Call::GoTo, b"slot 3", g);
-    let mut t = g;
-    t.slot = 4;
+    let t = Given { slot: 4, ..g };
     line(
         Call::GoTo,
         b"a slot no call wrote",

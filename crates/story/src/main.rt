@@ -107,8 +107,10 @@ fn rebuilt(log: &[u8], before: u32) -> Vsu {
 }
 
 fn wrong_way(p: Player, log: &[u8], sum: u32) {
-    let mut q = p;
-    q.unit = rebuilt(log, p.cycle);
+    let q = Player {
+        unit: rebuilt(log, p.cycle),
+        ..p
+    };
     table(q);
     bars(q, 2, log).compare(b"last byte of each register", sum);
 }
