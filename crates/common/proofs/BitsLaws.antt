@@ -6,7 +6,7 @@ use native.Mathlib.Nat.{one-mul, mod-eq_of_lt, zero-mod, div-eq_of_lt, div-le_se
 use native.Mathlib.Omega.{arith}
 use borrow.Author.Tests.{lt-ltb, le-ltb}
 use lib.Bits.{bit_and, and_mask}
-use lib.Pow.{pow_pos, pow-lt, pow_mono}
+use lib.Pow.{pow-lt, pow_mono}
 use lib.IntN.{ℤ, pos, negsuc, ◌+ℤ◌}
 use mir.Syntax.{w8, w16}
 use mir.Val.{SFits, to_z, of_z}
@@ -22,9 +22,6 @@ mask {k} h = ap (λ (n : ℕ). n % 256) (one-mul (2 ^ k)) ∙ mod-eq_of_lt (pow-
 
 pub masked : {k : ℕ} → k < 8 → (n : ℕ) → bit_and n (1 * 2 ^ k % 256 - 1) ≡ n % 2 ^ k
 masked {k} h n = rw (mask h) (and_mask n k)
-
-pub mask-pos : {k : ℕ} → k < 8 → 1 ≤ 1 * 2 ^ k % 256
-mask-pos {k} h = rw (mask h) (pow_pos k)
 
 -- fields that start past a byte, or are as wide as one
 pub field_out : {value from : ℕ} (width : ℕ) → value < 256 → 7 < from → 0 ≡ bits from width value
@@ -61,9 +58,6 @@ added_is (negsuc e) f = rw (le-ltb 2048 (suc e) (omega (arith, f.sfits))) (ap po
 module _ (e : ℤ) (f : SFits w8 e) where
   entry-is : to_z w16 (of_z w16 (to_z w8 (of_z w8 e))) ≡ e
   entry-is = ap (λ (z : ℤ). to_z w16 (of_z w16 z)) (to_z-of_z f) ∙ to_z-of_z {w = w16} (sfits_widen {w = w8} {w' = w16} {z = e} (tt {0}) f)
-
-  pub entry-fits : SFits w16 (to_z w8 (of_z w8 e))
-  entry-fits = rw (to_z-of_z f) (sfits_widen {w = w8} {w' = w16} {z = e} (tt {0}) f)
 
   addend-is : to_z w16 (of_z w16 (to_z w8 (of_z w8 e))) +ℤ pos 2048 ≡ pos (addend e)
   addend-is = ap (λ (z : ℤ). z +ℤ pos 2048) entry-is ∙ added_is e f

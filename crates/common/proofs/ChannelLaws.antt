@@ -5,7 +5,7 @@ use mathlib.Core.Bool.{Bool, true, false, cond, not, ◌&&◌, and-eq-true_iff}
 use mathlib.Core.List.{[], ◌∷◌}
 use native.Mathlib.Nat.{le_trans, mul-le-mul_left, mul-le-mul_right}
 use native.Mathlib.Omega.{arith}
-use borrow.Author.Tests.{lt-leb, le-leb, lt-ltb, le-ltb, ne_eqb, leb-true, leb-false, ltb-true, ltb-false}
+use borrow.Author.Tests.{lt-leb, le-leb, lt-ltb, le-ltb, leb-true, leb-false, ltb-true, ltb-false}
 use borrow.Author.Rules.{rules}
 use lib.Dec.{eqb, leb, ltb}
 use Rattle.laws.proofs.Cases.{each, ways}
@@ -27,14 +27,6 @@ module _ (l : Live) where
     pub live-counts : l.tick < 76804 → with_tick_counter_playing l (l.tick + 1) l.counter l.playing ≡ live_step l
     unfolding live_step
     live-counts t = rw (p, lt-leb 76805 (l.tick + 1) (omega arith))
-
-    pub live-ticks : 76804 ≤ l.tick → l.counter < l.interval → with_tick_counter_playing l 0 (l.counter + 1) l.playing ≡ live_step l
-    unfolding live_step live_ticked
-    live-ticks t i = rw (p, le-leb 76805 (l.tick + 1) (omega arith), lt-leb (l.interval + 1) (l.counter + 1) (omega arith))
-
-    pub live-stops : 76804 ≤ l.tick → l.interval ≤ l.counter → with_tick_counter_playing l 0 0 false ≡ live_step l
-    unfolding live_step live_ticked
-    live-stops t i = rw (p, le-leb 76805 (l.tick + 1) (omega arith), le-leb (l.interval + 1) (l.counter + 1) (omega arith))
 
 -- step 2
 
@@ -63,23 +55,6 @@ module _ (p : Pitch) (frequency period : ℕ) where
 -- step 3
 
 module _ (e : Envelope) where
-  pub level-up : e.up ≡ true → e.level < 15 → e.level + 1 ≡ next_level e
-  unfolding next_level
-  level-up u l = rw (u, lt-ltb e.level 15 l)
-
-  pub level-down : e.up ≡ false → 0 < e.level → e.level - 1 ≡ next_level e
-  unfolding next_level
-  level-down u l = rw (u, lt-ltb 0 e.level l)
-
-  -- the level is at 15, or at 0
-  pub level-top : e.up ≡ true → 15 ≤ e.level → {b : Bool} → e.looped ≡ b → cond b e.reload e.level ≡ next_level e
-  unfolding next_level
-  level-top u l h = rw (u, le-ltb e.level 15 l, h)
-
-  pub level-bottom : e.up ≡ false → e.level ≤ 0 → {b : Bool} → e.looped ≡ b → cond b e.reload e.level ≡ next_level e
-  unfolding next_level
-  level-bottom u l h = rw (u, le-ltb 0 e.level l, h)
-
   pub envelope-counts : e.tick < 307218 → with_tick_step_level e (e.tick + 1) e.step e.level ≡ envelope_step e
   unfolding envelope_step
   envelope-counts t = rw (lt-leb 307219 (e.tick + 1) (omega arith))
@@ -89,29 +64,12 @@ module _ (e : Envelope) where
     unfolding envelope_step envelope_ticked
     envelope-off o = rw (le-leb 307219 (e.tick + 1) (omega arith), o)
 
-    module _ (o : e.on ≡ true) where
-      pub envelope-ticks : e.step < e.interval → with_tick_step_level e 0 (e.step + 1) e.level ≡ envelope_step e
-      unfolding envelope_step envelope_ticked
-      envelope-ticks i = rw (le-leb 307219 (e.tick + 1) (omega arith), o, lt-leb (e.interval + 1) (e.step + 1) (omega arith))
-
-      pub envelope-moves : e.interval ≤ e.step → {level : ℕ} → level ≡ next_level e → with_tick_step_level e 0 0 level ≡ envelope_step e
-      unfolding envelope_step envelope_ticked
-      envelope-moves i l = rw (l, le-leb 307219 (e.tick + 1) (omega arith), o, le-leb (e.interval + 1) (e.step + 1) (omega arith))
-
 -- a side
 
 pub product_le : {a b : ℕ} (m n : ℕ) → a ≤ m → b ≤ n → a * b ≤ m * n
 product_le {a} {b} m n p q = le_trans (mul-le-mul_left a q) (mul-le-mul_right n p)
 
 module _ (level volume : ℕ) where
-  pub amplitude-full : (ltb 0 level && ltb 0 volume) ≡ true → level * volume / 8 + 1 ≡ amplitude_of level volume
-  unfolding amplitude_of
-  amplitude-full h = rw h
-
-  pub amplitude-none : (ltb 0 level && ltb 0 volume) ≡ false → level * volume / 8 ≡ amplitude_of level volume
-  unfolding amplitude_of
-  amplitude-none h = rw h (omega arith)
-
   cond-le : (b : Bool) → cond b 1 0 ≤ 1
   cond-le true = omega arith
   cond-le false = omega arith
@@ -124,38 +82,6 @@ module _ (level volume : ℕ) where
   pub side-le : (sample : ℕ) → level ≤ 15 → volume ≤ 15 → sample ≤ 63 → side level volume sample ≤ 913
   unfolding side
   side-le sample l v s = omega (arith, product_le 29 63 (amplitude-le 15 15 l v) s)
-
--- register writes
-
-module _ (b : ℕ) (c : Channel) where
-  pub write-interval : {o : ℕ} → o ≡ 0x00 → write_interval b c ≡ channel_write o b c
-  unfolding channel_write
-  write-interval e = rw e
-
-  pub write-volumes : {o : ℕ} → o ≡ 0x04 → write_volumes b c ≡ channel_write o b c
-  unfolding channel_write
-  write-volumes e = rw e
-
-  pub write_low_lem : {o : ℕ} → o ≡ 0x08 → write_low b c ≡ channel_write o b c
-  unfolding channel_write
-  write_low_lem e = rw e
-
-  pub write-high : {o : ℕ} → o ≡ 0x0C → write_high b c ≡ channel_write o b c
-  unfolding channel_write
-  write-high e = rw e
-
-  pub write-envelope : {o : ℕ} → o ≡ 0x10 → write_envelope b c ≡ channel_write o b c
-  unfolding channel_write
-  write-envelope e = rw e
-
-  pub write-envelope-mode : {o : ℕ} → o ≡ 0x14 → write_envelope_mode b c ≡ channel_write o b c
-  unfolding channel_write
-  write-envelope-mode e = rw e
-
-  pub write-other : (o : ℕ) → (o ≡ 0x00 → ⊥) → (o ≡ 0x04 → ⊥) → (o ≡ 0x08 → ⊥) → (o ≡ 0x0C → ⊥) → (o ≡ 0x10 → ⊥) → (o ≡ 0x14 → ⊥) → c ≡ channel_write o b c
-  unfolding channel_write
-  write-other o n0 n1 n2 n3 n4 n5 =
-      rw (ne_eqb o 0x00 n0, ne_eqb o 0x04 n1, ne_eqb o 0x08 n2, ne_eqb o 0x0C n3, ne_eqb o 0x10 n4, ne_eqb o 0x14 n5)
 
 -- A channel in range stays in range: its parts as bounds, what each step and each write makes of the bounds, and the same over the tests.
 

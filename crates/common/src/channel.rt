@@ -157,6 +157,7 @@ fn set_envelope_mode(c: Channel, value: u8) -> Channel
     }
 }
 
+#[tactic(auto, unfolding(crate::specs::Channel::channel_write))]
 pub fn set_u8(c: Channel, offset: u32, value: u8) -> Channel
     ensures { result ≡ channel_write offset value c }
 {
@@ -172,6 +173,7 @@ pub fn set_u8(c: Channel, offset: u32, value: u8) -> Channel
 }
 
 // Step 1 of a cycle.
+#[tactic(auto, unfolding(crate::specs::Channel::live_step, crate::specs::Channel::live_ticked))]
 pub fn live_step(l: Live) -> Live
     ensures { result ≡ live_step l }
 {
@@ -194,6 +196,7 @@ pub fn live_step(l: Live) -> Live
 }
 
 // Step 2 of a cycle, but for the sample itself.
+#[tactic(auto, unfolding(crate::specs::Channel::pitch_step, crate::specs::Channel::pitch_ticked))]
 pub fn pitch_step(p: Pitch, frequency: u16, period: u32) -> Pitched
     ensures { result ≡ pitch_step period frequency p }
 {
@@ -220,6 +223,7 @@ pub fn pitch_step(p: Pitch, frequency: u16, period: u32) -> Pitched
     }
 }
 
+#[tactic(auto, unfolding(crate::specs::Channel::next_level))]
 fn next_level(e: Envelope) -> u8
     ensures { result ≡ next_level e }
 {
@@ -236,6 +240,7 @@ fn next_level(e: Envelope) -> u8
 }
 
 // Step 3 of a cycle.
+#[tactic(auto, unfolding(crate::specs::Channel::envelope_step, crate::specs::Channel::envelope_ticked))]
 pub fn envelope_step(e: Envelope) -> Envelope
     ensures { result ≡ envelope_step e }
 {
@@ -257,6 +262,7 @@ pub fn envelope_step(e: Envelope) -> Envelope
     f
 }
 
+#[tactic(auto, unfolding(crate::specs::Channel::amplitude_of))]
 fn amplitude(level: u8, volume: u8) -> u32
     ensures { result ≡ amplitude_of level volume }
 {
@@ -268,6 +274,7 @@ fn amplitude(level: u8, volume: u8) -> u32
 }
 
 // One side of a voice. Whatever the bytes, six of them fit a u32.
+#[tactic(auto, unfolding(crate::specs::Channel::side))]
 pub fn sample_side(level: u8, volume: u8, output: u8) -> u32
     ensures { (result ≡ side level volume output) × (result ≤ 1036447) }
 {

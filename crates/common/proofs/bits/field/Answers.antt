@@ -8,8 +8,5 @@ returns-then-from-gt7 c = laws.field_out _ c.ranges.value.fits c.if-from-gt7.tru
 pub returns-then-width-gt7 : goal.returns-then-width-gt7
 returns-then-width-gt7 c = laws.field-whole _ c.ranges.value.fits c.if-width-gt7.true
 
-pub overflow_sub-result : goal.overflow_sub-result
-overflow_sub-result c = laws.mask-pos (omega arith)
-
 pub returns : goal.returns
 returns c = laws.masked (omega arith) _
