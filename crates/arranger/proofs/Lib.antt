@@ -1,4 +1,3 @@
-pub mod ArrangerLaws
 pub mod VoiceLaws
 pub mod WriteLaws
 pub mod ExchangeLaws

@@ -30,6 +30,7 @@ fn mode_kept(index: usize, byte: u8) -> u8
 }
 
 // The bits of a byte that a channel keeps of a write at an offset.
+#[tactic(auto, unfolding(crate::specs::Arranger::kept))]
 fn kept(index: usize, offset: u32, byte: u8) -> u8
     ensures { result ≡ kept index offset byte }
 {
@@ -48,30 +49,31 @@ fn kept(index: usize, offset: u32, byte: u8) -> u8
     }
 }
 
+#[tactic(auto, unfolding(crate::specs::Arranger::beside_wave))]
 fn beside_wave(at: usize, byte: u8, other: Register, value: u8) -> bool
     ensures { result ≡ beside_wave at byte other value }
 {
     match other {
         Register::Wave(to) => !(at == to) | (byte % 64 == value % 64),
-        Register::Modulation(_) => true,
-        Register::Channel { index: _, offset } => !(offset == 0x00),
+        Register::Channel { offset, .. } => !(offset == 0x00),
         Register::Stop => !bits::flag(value, 0),
-        Register::Nothing => true,
+        Register::Modulation(_) | Register::Nothing => true,
     }
 }
 
+#[tactic(auto, unfolding(crate::specs::Arranger::beside_modulation))]
 fn beside_modulation(at: usize, byte: u8, other: Register, value: u8) -> bool
     ensures { result ≡ beside_modulation at byte other value }
 {
     match other {
-        Register::Wave(_) => true,
         Register::Modulation(to) => !(at == to) | (byte == value),
         Register::Channel { index, offset } => !((index == 4) & (offset == 0x00)),
         Register::Stop => !bits::flag(value, 0),
-        Register::Nothing => true,
+        Register::Wave(_) | Register::Nothing => true,
     }
 }
 
+#[tactic(auto, unfolding(crate::specs::Arranger::beside_channel))]
 fn beside_channel(index: usize, offset: u32, byte: u8, other: Register, value: u8) -> bool
     ensures { result ≡ beside_channel index offset byte other value }
 {
@@ -90,27 +92,26 @@ fn beside_channel(index: usize, offset: u32, byte: u8, other: Register, value: u
     }
 }
 
+#[tactic(auto, unfolding(crate::specs::Arranger::beside_stop))]
 fn beside_stop(byte: u8, other: Register, value: u8) -> bool
     ensures { result ≡ beside_stop byte other value }
 {
     match other {
-        Register::Wave(_) => !bits::flag(byte, 0),
-        Register::Modulation(_) => !bits::flag(byte, 0),
-        Register::Channel { index: _, offset } => !((offset == 0x00)
+        Register::Wave(_) | Register::Modulation(_) => !bits::flag(byte, 0),
+        Register::Channel { offset, .. } => !((offset == 0x00)
             & bits::flag(value, 7)
             & bits::flag(byte, 0)),
-        Register::Stop => true,
-        Register::Nothing => true,
+        Register::Stop | Register::Nothing => true,
     }
 }
 
 // Whether either order of the two writes, by `vsu::unit::write`, gives one state, whatever the state before them.
+#[tactic(auto, unfolding(crate::specs::Arranger::beside))]
 pub fn may_exchange(address: u32, byte: u8, other: u32, value: u8) -> bool
     ensures { result ≡ may_exchange address byte other value }
 {
-    let r = unit::decode(address);
     let s = unit::decode(other);
-    match r {
+    match unit::decode(address) {
         Register::Wave(at) => beside_wave(at, byte, s, value),
         Register::Modulation(at) => beside_modulation(at, byte, s, value),
         Register::Channel { index, offset } => beside_channel(index, offset, byte, s, value),
@@ -119,41 +120,36 @@ pub fn may_exchange(address: u32, byte: u8, other: u32, value: u8) -> bool
     }
 }
 
+#[tactic(auto, unfolding(crate::specs::Arranger::dropped))]
 fn dropped(address: u32) -> bool
     ensures { result ≡ dropped (decode_of address) }
 {
-    let r = unit::decode(address);
-    match r {
-        Register::Wave(_) => true,
-        Register::Modulation(_) => true,
-        Register::Channel {
-            index: _,
-            offset: _,
-        } => false,
-        Register::Stop => false,
-        Register::Nothing => false,
-    }
+    matches!(
+        unit::decode(address),
+        Register::Wave(_) | Register::Modulation(_)
+    )
 }
 
+#[tactic(auto, unfolding(crate::specs::Arranger::lead_to))]
 fn lead_to(address: u32, byte: u8, other: u32, value: u8) -> Lead
     ensures { result ≡ lead_to address byte other value }
 {
     let another = 255 - byte;
     if other == 0x580 {
         return Lead::Playing {
-            address: address,
+            address,
             byte: another,
             start: 0x500,
         };
     }
     if bits::flag(value, 7) {
         return Lead::Filled {
-            address: address,
+            address,
             byte: another,
         };
     }
     Lead::Playing {
-        address: address,
+        address,
         byte: another,
         start: other,
     }
@@ -161,6 +157,7 @@ fn lead_to(address: u32, byte: u8, other: u32, value: u8) -> Lead
 
 // Where two writes may not be exchanged, the writes that lead from power-on to a state on which their order shows; where they may, it
 // means nothing.
+#[tactic(auto, unfolding(crate::specs::Arranger::lead_of))]
 pub fn shown_after(address: u32, byte: u8, other: u32, value: u8) -> Lead
     ensures { result ≡ lead_of address byte other value }
 {
