@@ -1,20 +1,16 @@
 -- The nearer of two distances.
-use Prim.Native.Nat.{ℕ, ◌<◌, ◌≤◌}
+use Prim.Native.Nat.{ℕ, ◌≤◌, min}
 use mathlib.Core.Path.{◌≡◌}
 use native.Mathlib.Omega.{arith}
-use borrow.Author.Tests.{lt-ltb, le-ltb, ltb-true, ltb-false}
+use borrow.Author.Tests.{ltb-true, ltb-false}
 use lib.Dec.{ltb}
 use Rattle.laws.proofs.Cases.{ways}
 use Rattle.leaps.specs.Distance.{least}
 
 module _ (a b : ℕ) where
-  pub first-least : a < b → a ≡ least a b
+  pub least-is : {x : ℕ} → x ≡ min a b → x ≡ least a b
   unfolding least
-  first-least h = rw (lt-ltb a b h)
-
-  pub second-least : b ≤ a → b ≡ least a b
-  unfolding least
-  second-least h = rw (le-ltb a b h)
+  least-is {x} e = ways (λ (y : ℕ). x ≡ y) (ltb a b) (λ t. omega (arith, e, ltb-true a b t)) (λ t. omega (arith, e, ltb-false a b t))
 
   -- what is within it is within both
   pub within : {n : ℕ} → n ≤ least a b → (n ≤ a) × (n ≤ b)

@@ -18,20 +18,9 @@ fn kind_far(k: Kind) -> u32
     ensures { result ≡ kind_far k }
 {
     match k {
-        Kind::Wave {
-            bank: _,
-            position: _,
-        } => NEVER,
-        Kind::Swept {
-            bank: _,
-            position: _,
-            sweep,
-        } => sweep_modulate::far(sweep),
-        Kind::Noise {
-            shift: _,
-            tap: _,
-            output: _,
-        } => NEVER,
+        Kind::Wave { .. } => NEVER,
+        Kind::Swept { sweep, .. } => sweep_modulate::far(sweep),
+        Kind::Noise { .. } => NEVER,
     }
 }
 
@@ -39,11 +28,10 @@ fn kind_far(k: Kind) -> u32
 pub fn far(v: Voice) -> u32
     ensures { result ≡ voice_far v }
 {
-    let c = v.channel;
-    let l = c.live;
-    let e = c.envelope;
-    let k = v.kind;
-    least(least(live::far(l), envelope::far(e)), kind_far(k))
+    least(
+        least(live::far(v.channel.live), envelope::far(v.channel.envelope)),
+        kind_far(v.kind),
+    )
 }
 
 fn channel_leap(c: Channel, n: u32) -> Channel
@@ -62,32 +50,21 @@ fn swept_leap(v: Voice, n: u32) -> Voice
     requires { n ≤ kind_far v.kind }
     ensures { result ≡ swept_leap n v }
 {
-    let k = v.kind;
-    match k {
-        Kind::Wave {
-            bank: _,
-            position: _,
-        } => v,
+    match v.kind {
+        Kind::Wave { .. } => v,
         Kind::Swept {
             bank,
             position,
             sweep,
-        } => {
-            let c = v.channel;
-            Voice {
-                channel: c,
-                kind: Kind::Swept {
-                    bank: bank,
-                    position: position,
-                    sweep: sweep_modulate::leap(sweep, n),
-                },
-            }
-        }
-        Kind::Noise {
-            shift: _,
-            tap: _,
-            output: _,
-        } => v,
+        } => Voice {
+            kind: Kind::Swept {
+                bank,
+                position,
+                sweep: sweep_modulate::leap(sweep, n),
+            },
+            ..v
+        },
+        Kind::Noise { .. } => v,
     }
 }
 

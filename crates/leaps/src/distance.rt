@@ -1,5 +1,5 @@
 // Distances: how many cycles come before a change.
-ghost use Rattle.std.specs.Prelude.{◌≡◌, ◌-◌};
+ghost use Rattle.std.specs.Prelude.{◌≡◌};
 ghost use Rattle.leaps.specs.Distance.{least, never};
 
 // Of what no cycle changes: no call runs further.
@@ -8,12 +8,5 @@ pub const NEVER: u32 = 4_294_967_295;
 pub fn least(a: u32, b: u32) -> u32
     ensures { result ≡ least a b }
 {
-    if a < b { a } else { b }
-}
-
-// How far x is below `last`.
-pub(crate) fn short_of(last: u32, x: u32) -> u32
-    ensures { result ≡ last - x }
-{
-    if x < last { last - x } else { 0 }
+    a.min(b)
 }

@@ -2,7 +2,7 @@
 ghost use Rattle.std.specs.Prelude.{◌≡◌, ◌≤◌};
 ghost use Rattle.leaps.specs.Envelope.{envelope_far, envelope_leap};
 
-use crate::distance::{NEVER, short_of};
+use crate::distance::NEVER;
 use common::channel::Envelope;
 use common::constants::ENVELOPE_CYCLE_COUNT;
 
@@ -10,7 +10,7 @@ pub(crate) fn far(e: Envelope) -> u32
     ensures { result ≡ envelope_far e }
 {
     if e.on {
-        return short_of(ENVELOPE_CYCLE_COUNT - 1, e.tick);
+        return (ENVELOPE_CYCLE_COUNT - 1).saturating_sub(e.tick);
     }
     NEVER
 }
@@ -20,7 +20,8 @@ pub(crate) fn leap(e: Envelope, n: u32) -> Envelope
     requires { (e.tick ≤ 307218) × (n ≤ 153608) }
     ensures { result ≡ envelope_leap n e }
 {
-    let mut f = e;
-    f.tick = (e.tick + n) % ENVELOPE_CYCLE_COUNT;
-    f
+    Envelope {
+        tick: (e.tick + n) % ENVELOPE_CYCLE_COUNT,
+        ..e
+    }
 }

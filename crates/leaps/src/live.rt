@@ -2,7 +2,7 @@
 ghost use Rattle.std.specs.Prelude.{◌≡◌, ◌≤◌};
 ghost use Rattle.leaps.specs.Live.{live_far, live_leap};
 
-use crate::distance::{NEVER, short_of};
+use crate::distance::NEVER;
 use common::channel::Live;
 use common::constants::SOUND_LIVE_INTERVAL_CYCLE_COUNT;
 
@@ -10,7 +10,7 @@ pub(crate) fn far(l: Live) -> u32
     ensures { result ≡ live_far l }
 {
     if l.playing & l.auto {
-        return short_of(SOUND_LIVE_INTERVAL_CYCLE_COUNT - 1, l.tick);
+        return (SOUND_LIVE_INTERVAL_CYCLE_COUNT - 1).saturating_sub(l.tick);
     }
     NEVER
 }
@@ -19,10 +19,11 @@ pub(crate) fn leap(l: Live, n: u32) -> Live
     requires { n ≤ live_far l }
     ensures { result ≡ live_leap n l }
 {
-    let mut m = l;
     if !(l.playing & l.auto) {
-        return m;
+        return l;
     }
-    m.tick = l.tick + n;
-    m
+    Live {
+        tick: l.tick + n,
+        ..l
+    }
 }

@@ -3,7 +3,6 @@ ghost use Rattle.std.specs.Prelude.{◌≡◌, ◌≤◌};
 ghost use Rattle.common.specs.Channel.{with_tick_counter};
 ghost use Rattle.leaps.specs.Pitch.{Pitchable, pitch_far, pitch_leap, pitch_after};
 
-use crate::distance::short_of;
 use common::channel::Pitch;
 
 // A pitch after some cycles, and how many samples they brought.
@@ -17,8 +16,8 @@ fn far(p: Pitch, frequency: u16, period: u32) -> u32
     requires { Pitchable period frequency p }
     ensures { result ≡ pitch_far period frequency p }
 {
-    let ticks = short_of(2047, (frequency as u32) + (p.counter as u32));
-    short_of(period - 1, p.tick) + period * ticks
+    let ticks = 2047u32.saturating_sub(u32::from(frequency) + u32::from(p.counter));
+    (period - 1).saturating_sub(p.tick) + period * ticks
 }
 
 // n cycles that bring no sample.
@@ -27,20 +26,22 @@ fn counted(p: Pitch, frequency: u16, period: u32, n: u32) -> Pitch
     ensures { result ≡ pitch_leap period n p }
 {
     let tick = p.tick + n;
-    let mut q = p;
-    q.tick = tick % period;
-    q.counter = p.counter + (tick / period) as u16;
-    q
+    Pitch {
+        tick: tick % period,
+        counter: p.counter + (tick / period) as u16,
+        ..p
+    }
 }
 
 // A pitch right after a sample.
 fn restarted(p: Pitch) -> Pitch
     ensures { result ≡ with_tick_counter p 0 0 }
 {
-    let mut q = p;
-    q.tick = 0;
-    q.counter = 0;
-    q
+    Pitch {
+        tick: 0,
+        counter: 0,
+        ..p
+    }
 }
 
 // n cycles, from sample to sample.
@@ -65,6 +66,6 @@ pub(crate) fn leap(p: Pitch, frequency: u16, period: u32, n: u32) -> Sampled
     }
     Sampled {
         pitch: counted(q, frequency, period, left),
-        samples: samples,
+        samples,
     }
 }

@@ -8,17 +8,15 @@ use voice::channel_enum::Kind;
 fn position_on(position: u8, n: u32) -> u8
     ensures { result ≡ (position + n) % 32 }
 {
-    (((position as u32) % 32 + n % 32) % 32) as u8
+    ((u32::from(position) % 32 + n % 32) % 32) as u8
 }
 
 fn clocked(kind: Kind, n: u32) -> Kind
     ensures { result ≡ samples_on n kind }
 {
     let mut k = kind;
-    let mut i = 0;
-    while i < n {
+    for _ in 0..n {
         k = channel_enum::increment_sample(k);
-        i += 1;
     }
     k
 }
@@ -30,7 +28,7 @@ pub(crate) fn on(kind: Kind, n: u32) -> Kind
 {
     match kind {
         Kind::Wave { bank, position } => Kind::Wave {
-            bank: bank,
+            bank,
             position: position_on(position, n),
         },
         Kind::Swept {
@@ -38,14 +36,10 @@ pub(crate) fn on(kind: Kind, n: u32) -> Kind
             position,
             sweep,
         } => Kind::Swept {
-            bank: bank,
+            bank,
             position: position_on(position, n),
-            sweep: sweep,
+            sweep,
         },
-        Kind::Noise {
-            shift: _,
-            tap: _,
-            output: _,
-        } => clocked(kind, n),
+        Kind::Noise { .. } => clocked(kind, n),
     }
 }

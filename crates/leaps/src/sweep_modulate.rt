@@ -2,7 +2,6 @@
 ghost use Rattle.std.specs.Prelude.{◌≡◌, ◌≤◌};
 ghost use Rattle.leaps.specs.SweepModulate.{sweep_far, sweep_leap};
 
-use crate::distance::short_of;
 use sweep::constants::{SWEEP_FAST_CYCLE_COUNT, SWEEP_SLOW_CYCLE_COUNT};
 use sweep::sweep_modulate::SweepModulate;
 
@@ -11,16 +10,17 @@ pub(crate) fn far(s: SweepModulate) -> u32
     ensures { result ≡ sweep_far s }
 {
     if s.slow {
-        return short_of(SWEEP_SLOW_CYCLE_COUNT - 1, s.step);
+        return (SWEEP_SLOW_CYCLE_COUNT - 1).saturating_sub(s.step);
     }
-    short_of(SWEEP_FAST_CYCLE_COUNT - 1, s.step)
+    (SWEEP_FAST_CYCLE_COUNT - 1).saturating_sub(s.step)
 }
 
 pub(crate) fn leap(s: SweepModulate, n: u32) -> SweepModulate
     requires { n ≤ sweep_far s }
     ensures { result ≡ sweep_leap n s }
 {
-    let mut t = s;
-    t.step = s.step + n;
-    t
+    SweepModulate {
+        step: s.step + n,
+        ..s
+    }
 }

@@ -3,7 +3,7 @@ use Rattle.leaps.proofs.EnvelopeLaws as laws
 use Rattle.leaps.proofs.envelope.far.Goals as goal
 
 pub returns-then-e : goal.returns-then-e
-returns-then-e c = c.short_of.ensures ∙ laws.far-on _ c.if-e.true
+returns-then-e c = c.saturating_sub.ensures ∙ laws.far-on _ c.if-e.true
 
 pub returns : goal.returns
 returns c = laws.far-off _ c.if-e.false

@@ -5,8 +5,8 @@ use Rattle.leaps.proofs.live.leap.Goals as goal
 pub returns-then-not-l : goal.returns-then-not-l
 returns-then-not-l c = laws.leap-stays _ c.if-not-l.true _
 
-pub overflow_add-m : goal.overflow_add-m
-overflow_add-m c = search (rules, laws.far-ticks c.args.l c.if-not-l.false)
+pub overflow_add-result : goal.overflow_add-result
+overflow_add-result c = search (rules, laws.far-ticks c.args.l c.if-not-l.false)
 
 pub returns : goal.returns
 returns c = laws.leap-ticks _ c.if-not-l.false _

@@ -6,14 +6,14 @@ use mathlib.Core.Path.{◌≡◌, refl, ◌∙◌, ap}
 use borrow.Author.Rules.{rules}
 use Rattle.leaps.proofs.sample.clocked.Goals as goal
 
-pub loop-i-init : goal.loop-i-init
+pub loop-init : goal.loop-init
 unfolding samples_on
-loop-i-init c = (search rules, refl)
+loop-init c = (search rules, refl)
 
-pub loop-i-preserved : goal.loop-i-preserved
-loop-i-preserved c = (search rules, laws.one_more _ _ c.loop-i.invariant.1 c.increment_sample-k.ensures)
+pub loop-preserved : goal.loop-preserved
+loop-preserved c = (omega arith, laws.one_more _ _ c.loop.invariant.1 c.increment_sample-k.ensures)
 
 pub returns : goal.returns
 returns c =
-    let all : c.loop-i.i ≡ c.args.n = omega arith in
-    c.loop-i.invariant.1 ∙ ap (λ (k : ℕ). samples_on k c.args.kind) all
+    let all : c.loop.counter ≡ c.args.n = omega arith in
+    c.loop.invariant.1 ∙ ap (λ (k : ℕ). samples_on k c.args.kind) all
