@@ -47,7 +47,7 @@ pub enum Block {
 }
 
 // A part of the image, which comes again until the next one begins: the number of its first field, its offset, its size, and what it is
-// made of.
+// made of; in columns, as a Cell.
 #[derive(Clone, Copy)]
 pub struct Part(pub u16, pub u32, pub u32, pub Block);
 
