@@ -16,7 +16,7 @@ use Rattle.refusal.specs.declared.Answer.TheVariants.{Accepted, Refused}
 use Rattle.refusal.specs.declared.Refusal.{Refusal}
 use Rattle.refusal.specs.declared.Refusal.TheVariants.{LogShort, LogEdition, LogHeader, LogCount, LogSize, LogEntry}
 use Rattle.refusal.proofs.RefusalLaws as order
-use Rattle.register_log.specs.Log.{Layout, entry_place, most_entries, checked_by, checked_answer, counted_answer, entries_answer, entry_answer, log_answer, due_before, due_before_of, count_in, entry_in, entry_of, handed, writes_from, check_of, count_of, cycles_of, due_at, due_earlier, edition_of, entry_faulty, entry_unfit, header_of, offset_of, write_at}
+use Rattle.register_log.specs.Log.{Layout, entry_place, most_entries, checked_by, checked_answer, counted_answer, entries_answer, entry_answer, log_answer, due_before, due_before_of, count_in, entry_in, handed, writes_from, check_of, count_of, cycles_of, due_at, due_earlier, edition_of, entry_faulty, entry_unfit, header_of, offset_of, write_at}
 use Rattle.register_log.specs.declared.Checked.{Checked}
 use Rattle.register_log.specs.declared.Checked.TheVariants as checked
 use Rattle.register_log.specs.declared.Counted.{Counted}
@@ -202,10 +202,6 @@ module _ (l : Layout) (b : List ℕ) where
 
   pub read-tells : (c : Checked) (i : ℕ) {r : Read} → r ≡ entry_in l c b i → (r ≡ entry_in l c b i) × Tells (entry_answer r) (checked_answer c)
   read-tells c i e = (e, order.tells (ap entry_answer e ∙ entry-answer l b c i))
-
-  pub entry-tells : {c : Checked} (i : ℕ) {r : Read} → c ≡ check_of l b → r ≡ entry_in l c b i → (r ≡ entry_of l b i) × Tells (entry_answer r) (log_answer l b)
-  entry-tells {c} i p e =
-      (e ∙ ap (λ (x : Checked). entry_in l x b i) p, order.tells (ap entry_answer e ∙ entry-answer l b c i ∙ ap checked_answer p ∙ check-answer l b))
 
   pub count-tells : {r : Counted} (cycle : ℕ) → r ≡ due_before_of l b cycle → (r ≡ due_before_of l b cycle) × Tells (counted_answer r) (log_answer l b)
   count-tells cycle e =

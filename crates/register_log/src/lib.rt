@@ -39,7 +39,7 @@ pub enum Counted {
     Refused(Refusal),
 }
 
-// Where an entry's bytes begin.
+// Where an entry's bytes begin. (`as`: Rust has no From of a u32 for usize.)
 pub fn entry_place(index: u32) -> usize
     ensures { result ≡ entry_place edition1 index }
 {

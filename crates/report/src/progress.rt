@@ -5,6 +5,7 @@ ghost use Rattle.report.specs.Progress.{percent_of};
 use crate::streams::STDERR_FILENO;
 use crate::terminal::Terminals;
 
+// `as`: the quotient is below 100, and `u32::try_from` would have an Err that never comes.
 fn percent(done: u32, all: u32) -> u32
     ensures { result ≡ percent_of done all }
 {

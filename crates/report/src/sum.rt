@@ -2,6 +2,7 @@
 ghost use Rattle.std.specs.Prelude.{◌≡◌, ◌*◌, take};
 ghost use Rattle.report.specs.Sum.{fold, fold_all, fold_sides, side_of};
 
+// `as`: the rest fits, and `u32::try_from` would have an Err that never comes.
 fn fold(sum: u32, value: u32) -> u32
     ensures { result ≡ fold sum value }
 {
@@ -15,7 +16,7 @@ pub fn side(value: i16) -> u32
     u32::from(value.cast_unsigned())
 }
 
-// A sum, and after it the sides of the first `frames` frames of a buffer, left side first.
+// A sum, and after it the sides of the first `frames` frames of a buffer, left side first. (`as`: Rust has no From of a u32 for usize.)
 pub fn of_frames(start: u32, sides: &[i16], frames: u32) -> u32
     ensures { result ≡ fold_sides start (take (2 * frames) sides.now) }
 {

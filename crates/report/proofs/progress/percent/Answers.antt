@@ -2,17 +2,10 @@
 use Prim.Native.Nat.{ℕ, ◌*◌, ◌/◌, ◌<◌}
 use native.Mathlib.Nat.{div-lt_iff_lt-mul}
 use native.Mathlib.Omega.{arith}
-use borrow.Author.Tests.{le-leb, lt-leb}
 use Rattle.report.proofs.progress.percent.Goals as goal
 
 below : (done all : ℕ) → done < all → done * 100 / all < 100
 below done all h = (div-lt_iff_lt-mul {k = all} {x = done * 100} {y = 100} (omega arith)).1 (omega arith)
 
-pub returns-then-done-all : goal.returns-then-done-all
-returns-then-done-all c = rw (le-leb _ _ c.if-done-all.true)
-
 pub overflow_cast-result : goal.overflow_cast-result
 overflow_cast-result c = rw (c.from.ensures, c.from-2.ensures) (record { fits = omega (arith, below _ _ c.if-done-all.false) })
-
-pub returns : goal.returns
-returns c = rw (c.from.ensures, c.from-2.ensures, lt-leb _ _ c.if-done-all.false)
