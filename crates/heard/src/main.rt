@@ -7,26 +7,28 @@ mod walk;
 
 use refusal::Refusal;
 use register_log::Checked;
-use report::streams::STDIN_FILENO;
+use report::streams::STDOUT_FILENO;
 use report::terminal::Terminals;
-use report::{print, terminal};
+use report::{input, out, print, terminal};
+
+fn refused(why: Refusal) -> bool {
+    out::refused(STDOUT_FILENO, why)
+}
 
 fn hear(log: &[u8], terminals: Terminals) -> bool {
     let c = register_log::check_log(log);
     match c {
         Checked::Log { count, cycles } => walk::through(log, count, cycles, terminals),
-        Checked::Refused(why) => output::refused(why),
+        Checked::Refused(why) => refused(why),
     }
 }
 
-// The input has room for one byte more than a log may have, so that a longer one shows.
 fn heard(terminals: Terminals) -> bool {
     let mut space = [0u8; 1048577];
-    let size = io::read_full(STDIN_FILENO, &mut space);
-    if size > 1_048_576 {
-        return output::refused(Refusal::Room);
+    match input::whole(&mut space) {
+        Ok(log) => hear(log, terminals),
+        Err(why) => refused(why),
     }
-    hear(&space[..size], terminals)
 }
 
 fn main(rt: HostRuntime) {
