@@ -6,9 +6,13 @@ mod spans;
 
 use refusal::Refusal;
 use register_log::Checked;
-use report::streams::STDIN_FILENO;
+use report::streams::STDOUT_FILENO;
 use report::terminal::Terminals;
-use report::{print, terminal};
+use report::{input, out, print, terminal};
+
+fn refused(why: Refusal) -> bool {
+    out::refused(STDOUT_FILENO, why)
+}
 
 fn list(log: &[u8], terminals: Terminals) -> bool {
     let c = register_log::check_log(log);
@@ -16,18 +20,16 @@ fn list(log: &[u8], terminals: Terminals) -> bool {
         Checked::Log { count, cycles } => {
             output::heading(log, count, cycles) && spans::list(log, cycles, terminals)
         }
-        Checked::Refused(why) => output::refused(why),
+        Checked::Refused(why) => refused(why),
     }
 }
 
-// The input has room for one byte more than a log may have, so that a longer one shows.
 fn listed(terminals: Terminals) -> bool {
     let mut space = [0u8; 65537];
-    let size = io::read_full(STDIN_FILENO, &mut space);
-    if size > 65_536 {
-        return output::refused(Refusal::Room);
+    match input::whole(&mut space) {
+        Ok(log) => list(log, terminals),
+        Err(why) => refused(why),
     }
-    list(&space[..size], terminals)
 }
 
 fn main(rt: HostRuntime) {
