@@ -93,7 +93,7 @@ fn read(what: &'static [u8], bytes: &[u8], expected: Numbers) -> Result<(), End>
 // The image with a byte set.
 fn byte(image: &mut [u8]) -> Result<(), End> {
     let b = exactly::<6>()?;
-    let Some(place) = image.get_mut(little::u16_at(&b, 0) as usize) else {
+    let Some(place) = image.get_mut(usize::from(little::u16_at(&b, 0))) else {
         return Err(End::Broken(b"B is past the end"));
     };
     *place = b[2];
@@ -112,7 +112,7 @@ pub(crate) fn asked(u: Vsu, letter: u8) -> Result<(), End> {
 }
 
 pub(crate) fn bytes() -> Result<(), End> {
-    let size = little::u16_at(&exactly::<2>()?, 0) as usize;
+    let size = usize::from(little::u16_at(&exactly::<2>()?, 0));
     let mut space = [0u8; 1024];
     let Some(bytes) = space.get_mut(..size) else {
         return Err(End::Broken(b"D is too long"));
