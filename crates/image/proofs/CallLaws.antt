@@ -1,5 +1,5 @@
 -- What `write_image` and `read_image` answer and leave: one law for a refusal, one for the call accepted.
-use Rattle.std.specs.Prelude.{◌≡◌, ℕ, ◌+◌, ◌-◌, ◌<◌, ◌≤◌, true, false, not, ltb, List, [], ◌++◌, length, drop, replicate}
+use Rattle.std.specs.Prelude.{◌≡◌, ℕ, ◌+◌, ◌-◌, ◌<◌, ◌≤◌, true, false, not, ltb, List, [], ◌++◌, length, drop, replicate, Ok, Err}
 use mathlib.Core.Path.{refl, sym, ap, ◌∙◌}
 use native.Mathlib.Omega.{arith}
 use borrow.Author.Tests.{le-ltb, lt-ltb}
@@ -7,9 +7,7 @@ use lib.Seq.{sets, sets-eq}
 use Rattle.fields.proofs.EditionLaws.{fields-least, padded, state-padded}
 use Rattle.fields.specs.Fields.{fields_of, state_of}
 use Rattle.refusal.proofs.RefusalLaws as order
-use Rattle.refusal.specs.Refusal.{Tells, fault}
-use Rattle.refusal.specs.declared.Answer.{Answer}
-use Rattle.refusal.specs.declared.Answer.TheVariants.{Accepted, Refused}
+use Rattle.refusal.specs.Refusal.{Tells, fault, Answer}
 use Rattle.refusal.specs.declared.Refusal.{Refusal}
 use Rattle.refusal.specs.declared.Refusal.TheVariants.{ImageSize, Room, State}
 use Rattle.table.specs.Table.{field_count, known_edition, newest}
@@ -27,25 +25,25 @@ module _ (u : Vsu) (out : List ℕ) where
   abbrev pub Wrote : Answer → List ℕ → Type 0
   Wrote a after = (a ≡ (written_of u out).answer) × (after ≡ (written_of u out).out) × Tells a (image_answer u (length out))
 
-  wrote-refused : {why : Refusal} → image_answer u (length out) ≡ Refused why → Wrote (Refused why) out
+  wrote-refused : {why : Refusal} → image_answer u (length out) ≡ Err why → Wrote (Err why) out
   unfolding written_by
   wrote-refused q = (rw q, rw q, order.tells (sym q))
 
-  state-refused : in_range u ≡ false → image_answer u (length out) ≡ Refused State
+  state-refused : in_range u ≡ false → image_answer u (length out) ≡ Err State
   unfolding image_answer unit_answer
   state-refused h = order.ends (fault (ltb (length out) newest.size) Room) (order.at-fault {t = not (in_range u)} State (rw h))
 
-  room-refused : in_range u ≡ true → length out < newest.size → image_answer u (length out) ≡ Refused Room
+  room-refused : in_range u ≡ true → length out < newest.size → image_answer u (length out) ≡ Err Room
   unfolding image_answer unit_answer
   room-refused h l = order.on _ (order.sound {t = not (in_range u)} State (rw h)) ∙ order.at-fault Room (lt-ltb _ _ l)
 
-  pub wrote-state : in_range u ≡ false → Wrote (Refused State) out
+  pub wrote-state : in_range u ≡ false → Wrote (Err State) out
   wrote-state h = wrote-refused (state-refused h)
 
-  pub wrote-room : in_range u ≡ true → length out < newest.size → Wrote (Refused Room) out
+  pub wrote-room : in_range u ≡ true → length out < newest.size → Wrote (Err Room) out
   wrote-room h l = wrote-refused (room-refused h l)
 
-  image-accepted : in_range u ≡ true → newest.size ≤ length out → image_answer u (length out) ≡ Accepted
+  image-accepted : in_range u ≡ true → newest.size ≤ length out → image_answer u (length out) ≡ Ok tt
   unfolding image_answer unit_answer
   image-accepted h l = order.on _ (order.sound {t = not (in_range u)} State (rw h)) ∙ order.sound Room (le-ltb _ _ l)
 
@@ -56,13 +54,13 @@ module _ (u : Vsu) (out : List ℕ) where
       let z : 0 + length (image_of newest u) ≡ newest.size = omega (arith, n) in
       rw q (sets-eq (image_of newest u) out 0 (omega (arith, n, l)) ∙ ap (λ (k : ℕ). image_of newest u ++ drop k out) z)
 
-  pub wrote : {f after : List ℕ} → in_range u ≡ true → newest.size ≤ length out → f ≡ fields_of newest u → after ≡ sets out 0 (bytes_of newest f newest.fields) → Wrote Accepted after
+  pub wrote : {f after : List ℕ} → in_range u ≡ true → newest.size ≤ length out → f ≡ fields_of newest u → after ≡ sets out 0 (bytes_of newest f newest.fields) → Wrote (Ok tt) after
   unfolding written_by
   wrote h l e p =
-      let q : image_answer u (length out) ≡ Accepted = image-accepted h l in (rw q, rw q (p ∙ laid l e), order.tells (sym q))
+      let q : image_answer u (length out) ≡ Ok tt = image-accepted h l in (rw q, rw q (p ∙ laid l e), order.tells (sym q))
 
   -- for callers
-  pub written : in_range u ≡ true → newest.size ≤ length out → written_of u out ≡ record { answer = Accepted; out = image_of newest u ++ drop newest.size out }
+  pub written : in_range u ≡ true → newest.size ≤ length out → written_of u out ≡ record { answer = Ok tt; out = image_of newest u ++ drop newest.size out }
   unfolding written_by
   written h l = rw (image-accepted h l)
 
@@ -70,8 +68,8 @@ module _ (u : Vsu) (out : List ℕ) where
 
 answer-of : (a : Answer) (f : List ℕ) → (loaded_by a f).answer ≡ a
 unfolding loaded_by
-answer-of Accepted f = refl
-answer-of (Refused why) f = refl
+answer-of (Ok done) f = refl
+answer-of (Err why) f = refl
 
 -- for callers
 pub read_answer_lem : (b : List ℕ) → (read_of b).answer ≡ read_answer b
@@ -85,7 +83,7 @@ module _ (b : List ℕ) where
   told : {r : Loaded} → r ≡ read_of b → Told r
   told e = (e, order.tells (ap (λ (r : Loaded). r.answer) e ∙ read_answer_lem b))
 
-  pub read-size : {r : Loaded} → (length b ≡ newest.size → ⊥) → r ≡ loaded_by (Refused ImageSize) [] → Told r
+  pub read-size : {r : Loaded} → (length b ≡ newest.size → ⊥) → r ≡ loaded_by (Err ImageSize) [] → Told r
   unfolding read_of read_answer loaded_by
   read-size n e = told (e ∙ rw (unsized (edition_in b) b n))
 
@@ -101,7 +99,7 @@ module _ (b : List ℕ) where
         ∙ answer-same (known_edition k) _ values (padded values (newest.fields - field_count k)) (field_count k) 0
         ∙ sym (sized (known_edition k) b n))
 
-    pub read-refused : {why : Refusal} {r : Loaded} → a ≡ Refused why → r ≡ loaded_by (Refused why) [] → Told r
+    pub read-refused : {why : Refusal} {r : Loaded} → a ≡ Err why → r ≡ loaded_by (Err why) [] → Told r
     unfolding read_of loaded_by
     read-refused c e = told (e ∙ rw (← answered, c))
 
@@ -109,6 +107,6 @@ module _ (b : List ℕ) where
     state-read =
         ap state_of p ∙ state-padded values (newest.fields - field_count k) (omega (arith, values_length (known_edition k) b (field_count k), fields-least k))
 
-    pub read_done : {u : Vsu} → a ≡ Accepted → u ≡ state_of f → Told (record { state = u; answer = Accepted })
+    pub read_done : {u : Vsu} → a ≡ Ok tt → u ≡ state_of f → Told (record { state = u; answer = Ok tt })
     unfolding read_of loaded_by
     read_done c e = told (rw (e, state-read, ← answered, c, ← d))

@@ -1,5 +1,5 @@
 -- Laws of specs/Image.antt: a table whose rows lie one after the other, the bytes of values and the values in bytes.
-use Rattle.std.specs.Prelude.{◌≡◌, ℕ, zero, suc, ◌+◌, ◌-◌, ◌^◌, ◌<◌, ◌≤◌, Bool, true, false, List, [], ◌∷◌, ◌++◌, length, get_or, take, drop, set, replicate}
+use Rattle.std.specs.Prelude.{◌≡◌, ℕ, zero, suc, ◌+◌, ◌-◌, ◌^◌, ◌<◌, ◌≤◌, Bool, true, false, List, [], ◌∷◌, ◌++◌, length, get_or, take, drop, set, replicate, Ok, Err}
 use mathlib.Core.Path.{refl, sym, ap, subst, ◌∙◌}
 use mathlib.Core.List.{append_assoc, append-nil}
 use native.Mathlib.Decide.{ℕ_discrete}
@@ -11,9 +11,8 @@ use lib.Seq.{sets, sets-eq, get_or_at, ext_get_or, take-add, get_or-drop, drop_a
 use Rattle.laws.proofs.Cases.{ahead}
 use Rattle.little.proofs.LittleLaws.{sets-append, bytes-length, front_bytes, bytes-front}
 use Rattle.little.specs.Little.{bytes, front, number, size_of}
-use Rattle.refusal.specs.declared.Answer.TheVariants.{Accepted, Refused}
 use Rattle.refusal.specs.declared.Refusal.{Refusal}
-use Rattle.refusal.specs.Refusal.{fault, ◌then◌}
+use Rattle.refusal.specs.Refusal.{Answer, fault, ◌then◌}
 use Rattle.table.specs.Table.{Edition, faulty_at, field_count, field_faulty, known_edition, newest}
 use Rattle.table.specs.declared.Known.{Known}
 use Rattle.table.specs.declared.Row.{Row}
@@ -69,7 +68,7 @@ module _ (e : Edition) (f : List ℕ) (i : ℕ) where
   left : i < e.fields → e.fields - i ≡ suc (e.fields - (i + 1))
   left h = omega arith
 
-  pub fault-here : {r : Row} {v : ℕ} → i < e.fields → r ≡ e.rows i → v ≡ get_or f i 0 → field_faulty (get_or f e.shift 0) r v ≡ true → fields_answer e f (e.fields - i) i ≡ Refused (refusal_at r.offset)
+  pub fault-here : {r : Row} {v : ℕ} → i < e.fields → r ≡ e.rows i → v ≡ get_or f i 0 → field_faulty (get_or f e.shift 0) r v ≡ true → fields_answer e f (e.fields - i) i ≡ Err (refusal_at r.offset)
   unfolding fields_answer fault ◌then◌
   fault-here h p q t = rw (left h, ← p, ← q, t)
 
@@ -77,7 +76,7 @@ module _ (e : Edition) (f : List ℕ) (i : ℕ) where
   unfolding fields_answer fault ◌then◌
   fault-later h p q t = rw (left h, ← p, ← q, t, add-one i)
 
-  pub no-fault : e.fields ≤ i → fields_answer e f (e.fields - i) i ≡ Accepted
+  pub no-fault : e.fields ≤ i → fields_answer e f (e.fields - i) i ≡ Ok tt
   unfolding fields_answer fault ◌then◌
   no-fault h = let z : e.fields - i ≡ 0 = omega arith in rw z
 
@@ -96,24 +95,24 @@ module _ (e : Edition) (f g : List ℕ) where
 
 -- An accepted image has no field at fault; a refused one's offset is that of the first, and no lower one is at fault.
 
-pub never : {why : Refusal} → Refused why ≡ Accepted → ⊥
+pub never : {why : Refusal} → ◌≡◌ {A = Answer} (Err why) (Ok tt) → ⊥
 never e = let z : ◌≡◌ {A = ℕ} 0 1 = cc in omega arith
 
 module _ (e : Edition) (f : List ℕ) where
   abbrev Sound : ℕ → ℕ → Type 0
   Sound n i = (j : ℕ) → i ≤ j → j < i + n → faulty_at e f j ≡ false
 
-  sound-step : (n i : ℕ) → (fields_answer e f n (suc i) ≡ Accepted → Sound n (suc i)) → (t : Bool) → faulty_at e f i ≡ t → (fault t (refusal_at (e.rows i).offset) then fields_answer e f n (suc i)) ≡ Accepted → Sound (suc n) i
+  sound-step : (n i : ℕ) → (fields_answer e f n (suc i) ≡ Ok tt → Sound n (suc i)) → (t : Bool) → faulty_at e f i ≡ t → (fault t (refusal_at (e.rows i).offset) then fields_answer e f n (suc i)) ≡ Ok tt → Sound (suc n) i
   unfolding fault ◌then◌
   sound-step n i r true g q = absurd (never q)
   sound-step n i r false g q = ahead (λ (j : ℕ). faulty_at e f j ≡ false) n i g (r q)
 
-  answer-sound : (n i : ℕ) → fields_answer e f n i ≡ Accepted → Sound n i
+  answer-sound : (n i : ℕ) → fields_answer e f n i ≡ Ok tt → Sound n i
   unfolding fields_answer fault ◌then◌
   answer-sound zero i q = λ j h g. absurd (omega arith)
   answer-sound (suc n) i q = sound-step n i (answer-sound n (suc i)) (faulty_at e f i) refl q
 
-  answer-none : (n i : ℕ) → Sound n i → fields_answer e f n i ≡ Accepted
+  answer-none : (n i : ℕ) → Sound n i → fields_answer e f n i ≡ Ok tt
   unfolding fields_answer fault ◌then◌
   answer-none zero i s = refl
   answer-none (suc n) i s =
@@ -131,7 +130,7 @@ module _ (e : Edition) (f : List ℕ) where
   abbrev pub Some : ℕ → ℕ → Refusal → Type 0
   Some n i why = (k : ℕ) × FirstFault n i k why
 
-  first_step : (n i : ℕ) (why : Refusal) → (fields_answer e f n (suc i) ≡ Refused why → Some n (suc i) why) → (t : Bool) → faulty_at e f i ≡ t → (fault t (refusal_at (e.rows i).offset) then fields_answer e f n (suc i)) ≡ Refused why → Some (suc n) i why
+  first_step : (n i : ℕ) (why : Refusal) → (fields_answer e f n (suc i) ≡ Err why → Some n (suc i) why) → (t : Bool) → faulty_at e f i ≡ t → (fault t (refusal_at (e.rows i).offset) then fields_answer e f n (suc i)) ≡ Err why → Some (suc n) i why
   unfolding fault ◌then◌
   first_step n i why r true g q =
       (i, record { from = omega arith; before = omega arith; fault = g; told = cc; sound = λ j h l. absurd (omega arith) })
@@ -147,17 +146,17 @@ module _ (e : Edition) (f : List ℕ) where
         },
       )
 
-  pub first-fault : (n i : ℕ) (why : Refusal) → fields_answer e f n i ≡ Refused why → Some n i why
+  pub first-fault : (n i : ℕ) (why : Refusal) → fields_answer e f n i ≡ Err why → Some n i why
   unfolding fields_answer fault ◌then◌
   first-fault zero i why q = absurd (never (sym q))
   first-fault (suc n) i why q = first_step n i why (first-fault n (suc i) why) (faulty_at e f i) refl q
 
   -- every field of an accepted image keeps its rules, and an image of which every field does is accepted
 
-  pub all_sound : (n : ℕ) → fields_answer e f n 0 ≡ Accepted → (i : ℕ) → i < n → faulty_at e f i ≡ false
+  pub all_sound : (n : ℕ) → fields_answer e f n 0 ≡ Ok tt → (i : ℕ) → i < n → faulty_at e f i ≡ false
   all_sound n q i h = answer-sound n 0 q i (omega arith) (omega arith)
 
-  pub none-faulty : (n : ℕ) → ((i : ℕ) → i < n → faulty_at e f i ≡ false) → fields_answer e f n 0 ≡ Accepted
+  pub none-faulty : (n : ℕ) → ((i : ℕ) → i < n → faulty_at e f i ≡ false) → fields_answer e f n 0 ≡ Ok tt
   none-faulty n s = answer-none n 0 (λ j h g. s j (omega arith))
 
 -- values in the bytes of values

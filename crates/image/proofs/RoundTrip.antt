@@ -1,6 +1,6 @@
 -- The image both ways: a state in range written as an image reads back equal; an accepted image is a state in range and writes back,
 -- by the newest edition, to the same bytes but for the edition's number; a refused one's number and offset are the lowest fault's.
-use Rattle.std.specs.Prelude.{◌≡◌, ℕ, zero, suc, ◌+◌, ◌-◌, ◌*◌, ◌^◌, ◌<◌, ◌≤◌, Bool, true, false, cond, not, ◌&&◌, eqb, ltb, leb, List, [], ◌∷◌, ◌++◌, length, get_or, take, drop, set}
+use Rattle.std.specs.Prelude.{◌≡◌, ℕ, zero, suc, ◌+◌, ◌-◌, ◌*◌, ◌^◌, ◌<◌, ◌≤◌, Bool, true, false, cond, not, ◌&&◌, eqb, ltb, leb, List, [], ◌∷◌, ◌++◌, length, get_or, take, drop, set, Ok, Err}
 use Prim.Native.Nat.{suc-le-suc}
 use mathlib.Core.Path.{refl, sym, ap, subst, ◌∙◌}
 use mathlib.Core.Bool.{true≢false}
@@ -9,9 +9,7 @@ use borrow.Author.Tests.{eq-eqb, eqb-false, eqb-true, leb-false, leb-true, lt-lt
 use lib.ListN.{take-append-drop, length-set, get_or-eq_default}
 use lib.Seq.{drop-set-lt, ext_get_or, get_or-set_other, get_or-set_same, set-get_or, take_all}
 use Rattle.refusal.proofs.RefusalLaws as order
-use Rattle.refusal.specs.Refusal.{answer_number, carried_of, fault, number_of}
-use Rattle.refusal.specs.declared.Answer.{Answer}
-use Rattle.refusal.specs.declared.Answer.TheVariants.{Accepted, Refused}
+use Rattle.refusal.specs.Refusal.{answer_number, carried_of, fault, number_of, Answer}
 use Rattle.refusal.specs.declared.Refusal.{Refusal}
 use Rattle.refusal.specs.declared.Refusal.TheVariants.{ImageField, ImageHeader, ImageSize}
 use Rattle.fields.proofs.EditionLaws.{fields-least, renewed, renewed-again, renewed-at, renewed-first, renewed-length, renewed-range}
@@ -39,7 +37,7 @@ image-420 u = image-length newest-laid (fields_of newest u) newest.fields (omega
 -- the answer of one edition: 9 for bytes of another size, else by the fields
 
 module _ (e : Edition) (b : List ℕ) where
-  pub unsized : (length b ≡ e.size → ⊥) → edition_answer e b ≡ Refused ImageSize
+  pub unsized : (length b ≡ e.size → ⊥) → edition_answer e b ≡ Err ImageSize
   unfolding edition_answer
   unsized n = order.ends _ (order.at-fault {t = not (eqb (length b) e.size)} ImageSize (rw (ne_eqb _ _ n)))
 
@@ -47,8 +45,8 @@ module _ (e : Edition) (b : List ℕ) where
   unfolding edition_answer
   sized n = order.on _ (order.sound {t = not (eqb (length b) e.size)} ImageSize (rw (eq-eqb _ _ n)))
 
-  module _ (a : edition_answer e b ≡ Accepted) where
-    both : (fault (not (eqb (length b) e.size)) ImageSize ≡ Accepted) × (fields_answer e (fields_in e b) e.fields 0 ≡ Accepted)
+  module _ (a : edition_answer e b ≡ Ok tt) where
+    both : (fault (not (eqb (length b) e.size)) ImageSize ≡ Ok tt) × (fields_answer e (fields_in e b) e.fields 0 ≡ Ok tt)
     unfolding edition_answer
     both = order.both-on _ _ a
 
@@ -65,7 +63,7 @@ module _ (u : Vsu) (h : in_range u ≡ true) where
   unfolding image_of
   fields_back = values-of-bytes newest-laid (fields_of newest u) (fits u (range-facts u h)) (fields-length u (range-facts u h))
 
-  image-accepted : edition_answer newest (image_of newest u) ≡ Accepted
+  image-accepted : edition_answer newest (image_of newest u) ≡ Ok tt
   image-accepted =
       sized newest (image_of newest u) (image-420 u)
       ∙ rw fields_back (none-faulty newest (fields_of newest u) newest.fields (none-at-fault u (range-facts u h)))
@@ -78,7 +76,7 @@ module _ (u : Vsu) (h : in_range u ≡ true) where
   unfolding known_in
   image-known = rw number-there
 
-  pub reads-back : read_of (image_of newest u) ≡ record { state = u; answer = Accepted }
+  pub reads-back : read_of (image_of newest u) ≡ record { state = u; answer = Ok tt }
   unfolding read_of read_answer loaded_by
   reads-back = rw (image-known, image-accepted, fields_back, state-back u (range-facts u h))
 
@@ -126,7 +124,7 @@ module _ (b : List ℕ) where
 
 -- an accepted image, of whatever edition
 
-module _ (k : Known) (b : List ℕ) (a : edition_answer (known_edition k) b ≡ Accepted) where
+module _ (k : Known) (b : List ℕ) (a : edition_answer (known_edition k) b ≡ Ok tt) where
   abbrev values : List ℕ
   values = fields_in (known_edition k) b
 
@@ -161,7 +159,7 @@ module _ (k : Known) (b : List ℕ) (a : edition_answer (known_edition k) b ≡ 
       (sym (value (suc i) (omega (arith, alike-fields k)))))
 
 -- edition 1: "u16 zero at 418"
-module _ (b : List ℕ) (a : edition_answer image1 b ≡ Accepted) where
+module _ (b : List ℕ) (a : edition_answer image1 b ≡ Ok tt) where
   zero-value : get_or (values First b a) 324 0 ≡ 0
   unfolding row_in part_of part_in cell_at
   zero-value = omega (arith, most First b a 324 (omega arith))
@@ -178,7 +176,7 @@ module _ (b : List ℕ) (a : edition_answer image1 b ≡ Accepted) where
   unfolding row_in part_of part_in cell_at
   here-325 = omega (arith, number-one (renumbered b) 419, other b 419 (omega arith), zero-bytes, get_or-eq_default (values First b a) 0 {n = 325} (omega (arith, count First b a)))
 
-here-past : (k : Known) (b : List ℕ) (a : edition_answer (known_edition k) b ≡ Accepted) (i : ℕ) → alike k ≤ i → i < 325 → here b (suc i) ≡ get_or (values k b a) (suc i) 0
+here-past : (k : Known) (b : List ℕ) (a : edition_answer (known_edition k) b ≡ Ok tt) (i : ℕ) → alike k ≤ i → i < 325 → here b (suc i) ≡ get_or (values k b a) (suc i) 0
 here-past First b a i h l = go (eqb i 323) refl
   where
     go : (t : Bool) → eqb i 323 ≡ t → here b (suc i) ≡ get_or (values First b a) (suc i) 0
@@ -186,7 +184,7 @@ here-past First b a i h l = go (eqb i 323) refl
     go false e = let q : i ≡ 324 = omega (arith, eqb-false i 323 e) in rw q (here-325 b a)
 here-past Second b a i h l = absurd (omega arith)
 
-module _ (k : Known) (b : List ℕ) (a : edition_answer (known_edition k) b ≡ Accepted) where
+module _ (k : Known) (b : List ℕ) (a : edition_answer (known_edition k) b ≡ Ok tt) where
   abbrev renewal : List ℕ
   renewal = renewed k (values k b a)
 
@@ -220,19 +218,19 @@ module _ (k : Known) (b : List ℕ) (a : edition_answer (known_edition k) b ≡ 
   number-exact : ((known_edition k).rows 0).own ≡ Exactly → number 2 b 0 ≡ ((known_edition k).rows 0).most
   number-exact o = sym (number-value k b) ∙ exactly _ ((known_edition k).rows 0) (get_or (values k b a) 0 0) o (kept k b a 0 (omega (arith, alike-fields k)))
 
-same_number : (b : List ℕ) → edition_answer newest b ≡ Accepted → renumbered b ≡ b
+same_number : (b : List ℕ) → edition_answer newest b ≡ Ok tt → renumbered b ≡ b
 unfolding row_in part_of part_in cell_at own_of
 same_number b a =
     let q : get_or b 0 0 ≡ 2 = omega (arith, number-exact Second b a refl, number-two b 0, number-low Second b a) in
     rw (← q) (set-get_or b 0 0)
 
-module _ (b : List ℕ) (a : read_answer b ≡ Accepted) where
-  accepted : edition_answer (edition_in b) b ≡ Accepted
+module _ (b : List ℕ) (a : read_answer b ≡ Ok tt) where
+  accepted : edition_answer (edition_in b) b ≡ Ok tt
   unfolding read_answer
   accepted = a
 
-  accepted-as : {k : Known} → known_in b ≡ k → edition_answer (known_edition k) b ≡ Accepted
-  accepted-as e = subst (λ (k : Known). edition_answer (known_edition k) b ≡ Accepted) e accepted
+  accepted-as : {k : Known} → known_in b ≡ k → edition_answer (known_edition k) b ≡ Ok tt
+  accepted-as e = subst (λ (k : Known). edition_answer (known_edition k) b ≡ Ok tt) e accepted
 
   read-state : (read_of b).state ≡ state_of (fields_in (edition_in b) b)
   unfolding read_of loaded_by
@@ -255,7 +253,7 @@ module _ (b : List ℕ) (a : read_answer b ≡ Accepted) where
   writes-back e small = writes-newest small ∙ same_number b (accepted-as e)
 
   -- what is written back reads as the same state
-  pub reads-again : read_of (image_of newest (read_of b).state) ≡ record { state = (read_of b).state; answer = Accepted }
+  pub reads-again : read_of (image_of newest (read_of b).state) ≡ record { state = (read_of b).state; answer = Ok tt }
   reads-again = reads-back (read_of b).state accepted-in-range
 
   -- 02 (v): "edition 1 is still read, as nothing muted"
@@ -296,7 +294,7 @@ module _ {e : Edition} (laid : Laid e) where
           go true q = absurd (omega (arith, l, up k j h (leb-true k j q)))
           go false q = leb-false k j q
 
-  blame : (b : List ℕ) → length b ≡ e.size → (why : Refusal) → edition_answer e b ≡ Refused why → Blame e (fields_in e b) why
+  blame : (b : List ℕ) → length b ≡ e.size → (why : Refusal) → edition_answer e b ≡ Err why → Blame e (fields_in e b) why
   blame b n why q =
       let w = first-fault e (fields_in e b) e.fields 0 why (sym (sized e b n) ∙ q) in
       (w.0, (lowest (fields_in e b) w.0 why w.1, w.1.told))
@@ -323,12 +321,12 @@ module _ (b : List ℕ) (n : length b ≡ 420) where
   abbrev f : List ℕ
   f = fields_in (edition_in b) b
 
-  pub blamed : (why : Refusal) → read_answer b ≡ Refused why → Blame (edition_in b) f why
+  pub blamed : (why : Refusal) → read_answer b ≡ Err why → Blame (edition_in b) f why
   unfolding read_answer
   blamed why e = blame (table-laid (known_in b)) b n why e
 
   -- 11, "carries the lowest such offset"
-  pub field-blamed : (o : ℕ) → read_answer b ≡ Refused (ImageField o) → (k : ℕ) × (Lowest (edition_in b) f k × (((edition_in b).rows k).offset ≡ o))
+  pub field-blamed : (o : ℕ) → read_answer b ≡ Err (ImageField o) → (k : ℕ) × (Lowest (edition_in b) f k × (((edition_in b).rows k).offset ≡ o))
   field-blamed o e = let w = blamed (ImageField o) e in (w.0, (w.1.0, told-field ((edition_in b).rows w.0).offset o w.1.1))
 
   -- bytes of an image's size are never refused by 9
@@ -336,8 +334,8 @@ module _ (b : List ℕ) (n : length b ≡ 420) where
   not-9 e = go (read_answer b) refl e
     where
       go : (a : Answer) → read_answer b ≡ a → answer_number a ≡ 9 → ⊥
-      go Accepted q z = omega (arith, z)
-      go (Refused why) q z = let w = blamed why q in told-other ((edition_in b).rows w.0).offset (ap number_of (sym w.1.1) ∙ z)
+      go (Ok done) q z = omega (arith, z)
+      go (Err why) q z = let w = blamed why q in told-other ((edition_in b).rows w.0).offset (ap number_of (sym w.1.1) ∙ z)
 
 -- 10, "header differs": given exactly when the bytes are 420 and the first 16 of them are no edition's
 
@@ -416,25 +414,25 @@ module _ (k : Known) (b : List ℕ) (n : length b ≡ newest.size) (small : all_
       go true q = absurd (omega (arith, l, seventh k, up (table-laid k) 7 i h (leb-true 7 i q)))
       go false q = leb-false 7 i q
 
-  header-differs : edition_answer e b ≡ Refused ImageHeader → take 16 b ≡ header_bytes e → ⊥
+  header-differs : edition_answer e b ≡ Err ImageHeader → take 16 b ≡ header_bytes e → ⊥
   header-differs a q =
       let w = blame (table-laid k) b n ImageHeader a in
       true≢false (sym w.1.0.fault ∙ header_read q w.0 (low w.0 w.1.0.field (told-header (e.rows w.0).offset w.1.1)))
 
-  header-told : (take 16 b ≡ header_bytes e → ⊥) → edition_answer e b ≡ Refused ImageHeader
+  header-told : (take 16 b ≡ header_bytes e → ⊥) → edition_answer e b ≡ Err ImageHeader
   header-told d = go (edition_answer e b) refl
     where
-      go : (a : Answer) → edition_answer e b ≡ a → edition_answer e b ≡ Refused ImageHeader
-      go Accepted q = absurd (d (header-same (λ i h. sound e b q i (omega (arith, many k)))))
-      go (Refused why) q = ending (blame (table-laid k) b n why q)
+      go : (a : Answer) → edition_answer e b ≡ a → edition_answer e b ≡ Err ImageHeader
+      go (Ok done) q = absurd (d (header-same (λ i h. sound e b q i (omega (arith, many k)))))
+      go (Err why) q = ending (blame (table-laid k) b n why q)
         where
-          ending : Blame e held why → edition_answer e b ≡ Refused ImageHeader
+          ending : Blame e held why → edition_answer e b ≡ Err ImageHeader
           ending w = here (leb 7 w.0) refl
             where
-              here : (t : Bool) → leb 7 w.0 ≡ t → edition_answer e b ≡ Refused ImageHeader
+              here : (t : Bool) → leb 7 w.0 ≡ t → edition_answer e b ≡ Err ImageHeader
               here true g =
                   absurd (d (header-same (λ i h. w.1.0.lower i (omega (arith, many k)) (omega (arith, (head k i h).early, seventh k, up (table-laid k) 7 w.0 w.1.0.field (leb-true 7 w.0 g))))))
-              here false g = q ∙ ap Refused (w.1.1 ∙ rw (lt-ltb _ _ (head k w.0 (leb-false 7 w.0 g)).early))
+              here false g = q ∙ ap Err (w.1.1 ∙ rw (lt-ltb _ _ (head k w.0 (leb-false 7 w.0 g)).early))
 
 -- the header tells its edition
 
@@ -449,7 +447,7 @@ header-known First b q = rw (header-number First b q)
 header-known Second b q = rw (header-number Second b q)
 
 module _ (b : List ℕ) (small : all_at_most 255 b ≡ true) where
-  pub header_refused : read_answer b ≡ Refused ImageHeader → HeaderDiffers b
+  pub header_refused : read_answer b ≡ Err ImageHeader → HeaderDiffers b
   unfolding read_answer
   header_refused a = go (eqb (length b) newest.size) refl
     where
@@ -458,16 +456,16 @@ module _ (b : List ℕ) (small : all_at_most 255 b ≡ true) where
           let n : length b ≡ newest.size = eqb-true _ _ e in
           record {
             size = n;
-            differs = λ k q. header-differs k b n small (subst (λ (k : Known). edition_answer (known_edition k) b ≡ Refused ImageHeader) (header-known k b q) a) q;
+            differs = λ k q. header-differs k b n small (subst (λ (k : Known). edition_answer (known_edition k) b ≡ Err ImageHeader) (header-known k b q) a) q;
           }
       go false e = absurd (let z : ◌≡◌ {A = ℕ} 9 10 = ap answer_number (sym (unsized (edition_in b) b (eqb-false _ _ e)) ∙ a) in omega arith)
 
-  pub refused-header : HeaderDiffers b → read_answer b ≡ Refused ImageHeader
+  pub refused-header : HeaderDiffers b → read_answer b ≡ Err ImageHeader
   unfolding read_answer
   refused-header h = header-told (known_in b) b h.size small (h.differs (known_in b))
 
   -- 02 (v): "10 for editions other than 1 and 2"
-  pub other-edition : length b ≡ newest.size → (number 2 b 0 ≡ 1 → ⊥) → (number 2 b 0 ≡ 2 → ⊥) → read_answer b ≡ Refused ImageHeader
+  pub other-edition : length b ≡ newest.size → (number 2 b 0 ≡ 1 → ⊥) → (number 2 b 0 ≡ 2 → ⊥) → read_answer b ≡ Err ImageHeader
   unfolding row_in part_of part_in cell_at
   other-edition n p q = refused-header (record { size = n; differs = no })
     where

@@ -1,9 +1,7 @@
 -- The state image, in the words of documents 01 and 02: 420 bytes, little-endian.
-use Rattle.std.specs.Prelude.{ℕ, zero, suc, cond, not, List, [], ◌∷◌, ◌++◌, length, drop, ◌==◌, nat_lt, slice_index}
+use Rattle.std.specs.Prelude.{ℕ, zero, suc, cond, not, List, [], ◌∷◌, ◌++◌, length, drop, ◌==◌, nat_lt, slice_index, Ok, Err}
 use Rattle.little.specs.Little.{bytes, number, size_of}
-use Rattle.refusal.specs.Refusal.{fault, ◌then◌}
-use Rattle.refusal.specs.declared.Answer.{Answer}
-use Rattle.refusal.specs.declared.Answer.TheVariants.{Accepted, Refused}
+use Rattle.refusal.specs.Refusal.{fault, ◌then◌, Answer}
 use Rattle.refusal.specs.declared.Refusal.{Refusal}
 use Rattle.refusal.specs.declared.Refusal.TheVariants.{Room, ImageSize, ImageHeader, ImageField}
 use Rattle.fields.specs.Fields.{fields_of, state_of}
@@ -39,7 +37,7 @@ module _ (e : Edition) where
 
   -- the lowest fault of the n fields from i on
   unfoldable pub fields_answer : List ℕ → ℕ → ℕ → Answer
-  fields_answer f zero i = Accepted
+  fields_answer f zero i = Ok tt
   fields_answer f (suc n) i = fault (faulty_at e f i) (refusal_at (e.rows i).offset) then fields_answer f n (suc i)
 
   -- 9, "image not 420 bytes", then 10 and 11
@@ -61,8 +59,8 @@ read_answer b = edition_answer (edition_in b) b
 -- Handed back: "a refused image the power-on state".
 
 unfoldable pub loaded_by : Answer → List ℕ → Loaded
-loaded_by Accepted f = record { state = state_of f; answer = Accepted }
-loaded_by (Refused why) f = record { state = power_on; answer = Refused why }
+loaded_by (Ok done) f = record { state = state_of f; answer = Ok tt }
+loaded_by (Err why) f = record { state = power_on; answer = Err why }
 
 unfoldable pub read_of : List ℕ → Loaded
 read_of b = loaded_by (read_answer b) (fields_in (edition_in b) b)
@@ -78,8 +76,8 @@ pub record ImageGives : Type 0 where
   pub out : List ℕ
 
 unfoldable pub written_by : Answer → Vsu → List ℕ → ImageGives
-written_by Accepted u out = record { answer = Accepted; out = image_of newest u ++ drop newest.size out }
-written_by (Refused why) u out = record { answer = Refused why; out = out }
+written_by (Ok done) u out = record { answer = Ok tt; out = image_of newest u ++ drop newest.size out }
+written_by (Err why) u out = record { answer = Err why; out = out }
 
 abbrev pub written_of : Vsu → List ℕ → ImageGives
 written_of u out = written_by (image_answer u (length out)) u out

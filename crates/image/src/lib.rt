@@ -7,7 +7,7 @@ ghost use Rattle.refusal.specs.Refusal.{Tells};
 ghost use Rattle.table.specs.Table.{field_count, known_edition, newest};
 ghost use Rattle.image.specs.Image.{bytes_of, fields_in, refusal_at, fields_answer, image_answer, written_of, known_in, read_answer, loaded_by, read_of};
 
-use refusal::{Answer, Refusal};
+use refusal::Refusal;
 use table::{FIELDS, Known, NEWEST, SHIFT, SIZE};
 use vsu::unit;
 use vsu::unit::Vsu;
@@ -16,7 +16,7 @@ use vsu::unit::Vsu;
 #[derive(Clone, Copy)]
 pub struct Loaded {
     pub state: Vsu,
-    pub answer: Answer,
+    pub answer: Result<(), Refusal>,
 }
 
 fn put_fields(out: &mut [u8], f: &[u32; FIELDS])
@@ -63,40 +63,40 @@ fn refusal_at(offset: u32) -> Refusal
 }
 
 // The lowest field at fault.
-fn check_fields(edition: Known, f: &[u32; FIELDS]) -> Answer
+fn check_fields(edition: Known, f: &[u32; FIELDS]) -> Result<(), Refusal>
     ensures { result ≡ fields_answer (known_edition edition) f.now (field_count edition) 0 }
 {
     for i in 0..table::fields_in(edition) {
         let r = table::row_at(edition, i as u16);
         if table::at_fault(r, f[SHIFT], f[i]) {
-            return Answer::Refused(refusal_at(r.offset));
+            return Err(refusal_at(r.offset));
         }
     }
-    Answer::Accepted
+    Ok(())
 }
 
 // 1, then 2; else the image in the first 420 bytes.
-pub fn write_image(u: Vsu, out: &mut [u8]) -> Answer
+pub fn write_image(u: Vsu, out: &mut [u8]) -> Result<(), Refusal>
     ensures { (result ≡ (written_of u out.old).answer) × (out.new ≡ (written_of u out.old).out) × Tells result (image_answer u (length out.old)) }
 {
     if !unit::in_range(u) {
-        return Answer::Refused(Refusal::State);
+        return Err(Refusal::State);
     }
     if out.len() < SIZE {
-        return Answer::Refused(Refusal::Room);
+        return Err(Refusal::Room);
     }
     put_fields(out, &fields::fields_of(u));
-    Answer::Accepted
+    Ok(())
 }
 
 // Handed back: "a refused image the power-on state".
 #[tactic(auto, unfolding(crate::specs::Image::loaded_by))]
 fn refused(why: Refusal) -> Loaded
-    ensures { result ≡ loaded_by (Answer.Refused why) [] }
+    ensures { result ≡ loaded_by (Err why) [] }
 {
     Loaded {
         state: unit::new(),
-        answer: Answer::Refused(why),
+        answer: Err(why),
     }
 }
 
@@ -110,10 +110,10 @@ pub fn read_image(b: &[u8]) -> Loaded
     let edition = edition_in(b);
     let f = take_fields(edition, b);
     match check_fields(edition, &f) {
-        Answer::Refused(why) => refused(why),
-        Answer::Accepted => Loaded {
+        Err(why) => refused(why),
+        Ok(()) => Loaded {
             state: fields::state_of(f),
-            answer: Answer::Accepted,
+            answer: Ok(()),
         },
     }
 }

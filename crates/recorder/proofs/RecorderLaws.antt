@@ -13,71 +13,74 @@ use Rattle.little.proofs.LittleLaws.{sets-append}
 use Rattle.register_log.specs.Log.{Layout, edition1, entry_place, most_entries}
 use Rattle.register_log.specs.Encoder.{entry_bytes, header_bytes}
 use Rattle.register_log.specs.declared.Write.{Write}
-use Rattle.refusal.specs.Refusal.{fault, ◌then◌, Tells}
-use Rattle.refusal.specs.declared.Answer.{Answer}
-use Rattle.refusal.specs.declared.Answer.TheVariants.{Accepted, Refused}
+use Rattle.refusal.specs.Refusal.{fault, ◌then◌, Tells, Answer}
 use Rattle.refusal.specs.declared.Refusal.{Refusal}
 use Rattle.refusal.specs.declared.Refusal.TheVariants.{Room, LogCount, CycleEarlier, LengthShort}
 use Rattle.refusal.proofs.RefusalLaws.{tells}
-use Rattle.recorder.specs.Recorder.{add_answer, finish_answer, gives_by, start_answer}
+use Rattle.recorder.specs.Recorder.{add_answer, finish_answer, Gives, gives_by, start_answer}
 use Rattle.recorder.specs.declared.Recorder.{Recorder}
-use Rattle.recorder.specs.declared.Turn.{Turn}
+use Rattle.std.specs.Prelude.{Ok, Err}
 
 -- an order's answer gives the record, the buffer and what the answer tells
 
-module _ {order : Answer} (r q : Recorder) (b c : List ℕ) {t : Turn} where
-  pub refuses : {why : Refusal} → order ≡ Refused why → t ≡ record { recorder = r; answer = Refused why } → (t ≡ (gives_by order r b q c).turn) × (b ≡ (gives_by order r b q c).buffer) × Tells t.answer order
-  unfolding gives_by
-  refuses e p = (rw e p, rw e, tells (ap (λ (x : Turn). x.answer) p ∙ sym e))
+-- what a contract says of the answer a, the record r and the buffer b that a call leaves: an order's answer gives them, and a tells of it
 
-  pub takes : order ≡ Accepted → t ≡ record { recorder = q; answer = Accepted } → {out : List ℕ} → out ≡ c → (t ≡ (gives_by order r b q c).turn) × (out ≡ (gives_by order r b q c).buffer) × Tells t.answer order
+abbrev pub Promised : Gives → Answer → Answer → Recorder → List ℕ → Type 0
+Promised g order a r b = (a ≡ g.turn.answer) × (r ≡ g.turn.recorder) × (b ≡ g.buffer) × Tells a order
+
+module _ {order : Answer} (r q : Recorder) (b c : List ℕ) where
+  pub refuses : {why : Refusal} → order ≡ Err why → Promised (gives_by order r b q c) order (Err why) r b
   unfolding gives_by
-  takes e p o = (rw e p, rw e o, tells (ap (λ (x : Turn). x.answer) p ∙ sym e))
+  refuses e = (rw e, rw e, rw e, tells (sym e))
+
+  pub takes : order ≡ Ok tt → {s : Recorder} → s ≡ q → {out : List ℕ} → out ≡ c → Promised (gives_by order r b q c) order (Ok tt) s out
+  unfolding gives_by
+  takes e p o = (rw e, rw e p, rw e o, tells (sym e))
 
 -- the rows of the orders
 
 module _ (l : Layout) (room : ℕ) where
-  pub start-short : room < l.header → start_answer l room ≡ Refused Room
+  pub start-short : room < l.header → start_answer l room ≡ Err Room
   unfolding start_answer fault
   start-short h = rw (lt-ltb room l.header h)
 
-  pub start-passes : l.header ≤ room → start_answer l room ≡ Accepted
+  pub start-passes : l.header ≤ room → start_answer l room ≡ Ok tt
   unfolding start_answer fault
   start-passes h = rw (le-ltb room l.header h)
 
   module _ (r : Recorder) (cycle : ℕ) where
-    pub add-earlier : (not (eqb r.entries 0) && ltb cycle r.last) ≡ true → add_answer l r cycle room ≡ Refused CycleEarlier
+    pub add-earlier : (not (eqb r.entries 0) && ltb cycle r.last) ≡ true → add_answer l r cycle room ≡ Err CycleEarlier
     unfolding add_answer fault ◌then◌
     add-earlier h = rw h
 
     module _ (h : (not (eqb r.entries 0) && ltb cycle r.last) ≡ false) where
-      pub add-full : most_entries ≤ r.entries → add_answer l r cycle room ≡ Refused LogCount
+      pub add-full : most_entries ≤ r.entries → add_answer l r cycle room ≡ Err LogCount
       unfolding add_answer fault ◌then◌
       add-full f = rw (h, le-leb most_entries r.entries f)
 
-      pub add-roomless : r.entries < most_entries → {place : ℕ} → place ≡ entry_place l (r.entries + 1) → room < place → add_answer l r cycle room ≡ Refused Room
+      pub add-roomless : r.entries < most_entries → {place : ℕ} → place ≡ entry_place l (r.entries + 1) → room < place → add_answer l r cycle room ≡ Err Room
       unfolding add_answer fault ◌then◌
       add-roomless f e g = rw (h, lt-leb most_entries r.entries f, lt-ltb room (entry_place l (suc r.entries)) (rw (e, add-one r.entries) at g))
 
-      pub add-passes : r.entries < most_entries → {place : ℕ} → place ≡ entry_place l (r.entries + 1) → place ≤ room → add_answer l r cycle room ≡ Accepted
+      pub add-passes : r.entries < most_entries → {place : ℕ} → place ≡ entry_place l (r.entries + 1) → place ≤ room → add_answer l r cycle room ≡ Ok tt
       unfolding add_answer fault ◌then◌
       add-passes f e g = rw (h, lt-leb most_entries r.entries f, le-ltb room (entry_place l (suc r.entries)) (rw (e, add-one r.entries) at g))
 
   module _ (r : Recorder) (cycles : ℕ) where
-    pub finish-low : (not (eqb r.entries 0) && leb cycles r.last) ≡ true → finish_answer l r cycles room ≡ Refused LengthShort
+    pub finish-low : (not (eqb r.entries 0) && leb cycles r.last) ≡ true → finish_answer l r cycles room ≡ Err LengthShort
     unfolding finish_answer fault ◌then◌
     finish-low h = rw h
 
     module _ (h : (not (eqb r.entries 0) && leb cycles r.last) ≡ false) where
-      pub finish-full : most_entries < r.entries → finish_answer l r cycles room ≡ Refused LogCount
+      pub finish-full : most_entries < r.entries → finish_answer l r cycles room ≡ Err LogCount
       unfolding finish_answer fault ◌then◌
       finish-full f = rw (h, lt-ltb most_entries r.entries f)
 
-      pub finish-roomless : r.entries ≤ most_entries → {place : ℕ} → place ≡ entry_place l r.entries → room < place → finish_answer l r cycles room ≡ Refused Room
+      pub finish-roomless : r.entries ≤ most_entries → {place : ℕ} → place ≡ entry_place l r.entries → room < place → finish_answer l r cycles room ≡ Err Room
       unfolding finish_answer fault ◌then◌
       finish-roomless f e g = rw (h, le-ltb most_entries r.entries f, lt-ltb room (entry_place l r.entries) (rw e at g))
 
-      pub finish-passes : r.entries ≤ most_entries → {place : ℕ} → place ≡ entry_place l r.entries → place ≤ room → finish_answer l r cycles room ≡ Accepted
+      pub finish-passes : r.entries ≤ most_entries → {place : ℕ} → place ≡ entry_place l r.entries → place ≤ room → finish_answer l r cycles room ≡ Ok tt
       unfolding finish_answer fault ◌then◌
       finish-passes f e g = rw (h, le-ltb most_entries r.entries f, le-ltb room (entry_place l r.entries) (rw e at g))
 
@@ -101,5 +104,5 @@ module _ (b : List ℕ) where
   unfolding header_bytes bytes
   puts-header count cycles d e f g h = rw (h, g, f, e, d)
 
-pub one_more : (n k : ℕ) {t : Turn} → t ≡ record { recorder = record { entries = n + 1; last = k }; answer = Accepted } → t ≡ record { recorder = record { entries = suc n; last = k }; answer = Accepted }
-one_more n k e = rw (add-one n) at e
+pub one_more : (n k : ℕ) → ◌≡◌ {A = Recorder} (record { entries = n + 1; last = k }) (record { entries = suc n; last = k })
+one_more n k = rw (add-one n)

@@ -1,17 +1,19 @@
 -- The panel recorder, in document 02's words: a record of how many entries there are and the due cycle of the last, and three calls
 -- over a lent buffer. Each call has one order of refusals, and by its first fault, or none, one definition gives the record, the answer
 -- and every byte of the buffer.
-use Rattle.std.specs.Prelude.{ℕ, suc, not, ◌&&◌, List, eqb, leb, ltb, length}
+use Rattle.std.specs.Prelude.{ℕ, suc, not, ◌&&◌, List, eqb, leb, ltb, length, Ok, Err}
 use Rattle.std.proofs.lemmas.List.Edits.{sets}
 use Rattle.register_log.specs.Log.{Layout, entry_place, most_entries}
 use Rattle.register_log.specs.Encoder.{entry_bytes, header_bytes}
 use Rattle.register_log.specs.declared.Write.{Write}
-use Rattle.refusal.specs.Refusal.{fault, ◌then◌}
-use Rattle.refusal.specs.declared.Answer.{Answer}
-use Rattle.refusal.specs.declared.Answer.TheVariants.{Accepted, Refused}
+use Rattle.refusal.specs.Refusal.{fault, ◌then◌, Answer}
 use Rattle.refusal.specs.declared.Refusal.TheVariants.{Room, LogCount, CycleEarlier, LengthShort}
 use Rattle.recorder.specs.declared.Recorder.{Recorder}
-use Rattle.recorder.specs.declared.Turn.{Turn}
+
+-- the record that a call hands back, and how it ended
+pub record Turn : Type 0 where
+  pub recorder : Recorder
+  pub answer : Answer
 
 -- what a call leaves: the record and the answer, and the buffer
 pub record Gives : Type 0 where
@@ -20,8 +22,8 @@ pub record Gives : Type 0 where
 
 -- a call that makes q of the record r, and c of the buffer b; a refused one hands back the given record and writes nothing
 unfoldable pub gives_by : Answer → Recorder → List ℕ → Recorder → List ℕ → Gives
-gives_by Accepted r b q c = record { turn = record { recorder = q; answer = Accepted }; buffer = c }
-gives_by (Refused why) r b q c = record { turn = record { recorder = r; answer = Refused why }; buffer = b }
+gives_by (Ok done) r b q c = record { turn = record { recorder = q; answer = Ok tt }; buffer = c }
+gives_by (Err why) r b q c = record { turn = record { recorder = r; answer = Err why }; buffer = b }
 
 -- Start: "2 for a buffer under 16 bytes". It is given no record; a refused one hands back a record without entries too.
 

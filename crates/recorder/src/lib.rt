@@ -9,7 +9,7 @@ ghost use Rattle.refusal.specs.Refusal.{Tells};
 ghost use Rattle.recorder.specs.Recorder.{start_answer, start_of, add_answer, add_of, finish_answer, finish_of};
 
 use little::Width;
-use refusal::{Answer, Refusal};
+use refusal::Refusal;
 
 // How many entries there are, and the due cycle of the last; without entries `last` means nothing.
 #[derive(Clone, Copy)]
@@ -23,11 +23,11 @@ const NONE: Recorder = Recorder {
     last: 0,
 };
 
-// What a call answers.
+// The record that a start makes, and how it ended: no Result, since a refused start hands back a record without entries too (`start_of`).
 #[derive(Clone, Copy)]
-pub struct Turn {
+pub struct Started {
     pub recorder: Recorder,
-    pub answer: Answer,
+    pub answer: Result<(), Refusal>,
 }
 
 // How many bytes the log has.
@@ -37,32 +37,22 @@ pub fn size(r: Recorder) -> usize
     register_log::entry_place(r.entries)
 }
 
-fn refused(r: Recorder, why: Refusal) -> Turn
-    ensures { result ≡ record { recorder = r; answer = Answer.Refused why } }
-{
-    Turn {
-        recorder: r,
-        answer: Answer::Refused(why),
-    }
-}
-
-fn accepted(entries: u32, last: u32) -> Turn
-    ensures { result ≡ record { recorder = record { entries = entries; last = last }; answer = Answer.Accepted } }
-{
-    Turn {
-        recorder: Recorder { entries, last },
-        answer: Answer::Accepted,
-    }
-}
-
 // Nothing is written yet: the header comes with the length, at a finish.
-pub fn start(buffer: &mut [u8]) -> Turn
-    ensures { (result ≡ (start_of edition1 buffer.old).turn) × (buffer.new ≡ (start_of edition1 buffer.old).buffer) × Tells result.answer (start_answer edition1 (length buffer.old)) }
+pub fn start(buffer: &mut [u8]) -> Started
+    ensures { (result.answer ≡ (start_of edition1 buffer.old).turn.answer)
+        × (result.recorder ≡ (start_of edition1 buffer.old).turn.recorder)
+        × (buffer.new ≡ (start_of edition1 buffer.old).buffer)
+        × Tells result.answer (start_answer edition1 (length buffer.old)) }
 {
-    if buffer.len() < 16 {
-        return refused(NONE, Refusal::Room);
+    let answer = if buffer.len() < 16 {
+        Err(Refusal::Room)
+    } else {
+        Ok(())
+    };
+    Started {
+        recorder: NONE,
+        answer,
     }
-    accepted(0, 0)
 }
 
 fn put_entry(buffer: &mut [u8], index: u32, cycle: u32, address: u16, byte: u8)
@@ -75,21 +65,34 @@ fn put_entry(buffer: &mut [u8], index: u32, cycle: u32, address: u16, byte: u8)
 }
 
 // The next entry: a write and the cycle it is due at.
-pub fn add(r: Recorder, cycle: u32, address: u16, byte: u8, buffer: &mut [u8]) -> Turn
-    ensures { (result ≡ (add_of edition1 r (record { due = cycle; address = address; byte = byte }) buffer.old).turn) × (buffer.new ≡ (add_of edition1 r (record { due = cycle; address = address; byte = byte }) buffer.old).buffer) × Tells result.answer (add_answer edition1 r cycle (length buffer.old)) }
+pub fn add(
+    r: &mut Recorder,
+    cycle: u32,
+    address: u16,
+    byte: u8,
+    buffer: &mut [u8],
+) -> Result<(), Refusal>
+    ensures { (result ≡ (add_of edition1 r.old (record { due = cycle; address = address; byte = byte }) buffer.old).turn.answer)
+        × (r.new ≡ (add_of edition1 r.old (record { due = cycle; address = address; byte = byte }) buffer.old).turn.recorder)
+        × (buffer.new ≡ (add_of edition1 r.old (record { due = cycle; address = address; byte = byte }) buffer.old).buffer)
+        × Tells result (add_answer edition1 r.old cycle (length buffer.old)) }
 {
     if (r.entries != 0) & (cycle < r.last) {
-        return refused(r, Refusal::CycleEarlier);
+        return Err(Refusal::CycleEarlier);
     }
     if r.entries >= 1_000_000 {
-        return refused(r, Refusal::LogCount);
+        return Err(Refusal::LogCount);
     }
     // by its own place and not the next one's: so the compiler sees that all eight bytes have room
     if buffer.len() < register_log::entry_place(r.entries) + 8 {
-        return refused(r, Refusal::Room);
+        return Err(Refusal::Room);
     }
     put_entry(buffer, r.entries, cycle, address, byte);
-    accepted(r.entries + 1, cycle)
+    *r = Recorder {
+        entries: r.entries + 1,
+        last: cycle,
+    };
+    Ok(())
 }
 
 fn put_header(buffer: &mut [u8], count: u32, cycles: u32)
@@ -103,18 +106,21 @@ fn put_header(buffer: &mut [u8], count: u32, cycles: u32)
 }
 
 // `cycles` is the log's length L. The record stays, so that more can be added and finished again.
-pub fn finish(r: Recorder, cycles: u32, buffer: &mut [u8]) -> Turn
-    ensures { (result ≡ (finish_of edition1 r cycles buffer.old).turn) × (buffer.new ≡ (finish_of edition1 r cycles buffer.old).buffer) × Tells result.answer (finish_answer edition1 r cycles (length buffer.old)) }
+pub fn finish(r: Recorder, cycles: u32, buffer: &mut [u8]) -> Result<(), Refusal>
+    ensures { (result ≡ (finish_of edition1 r cycles buffer.old).turn.answer)
+        × (r ≡ (finish_of edition1 r cycles buffer.old).turn.recorder)
+        × (buffer.new ≡ (finish_of edition1 r cycles buffer.old).buffer)
+        × Tells result (finish_answer edition1 r cycles (length buffer.old)) }
 {
     if (r.entries != 0) & (cycles <= r.last) {
-        return refused(r, Refusal::LengthShort);
+        return Err(Refusal::LengthShort);
     }
     if r.entries > 1_000_000 {
-        return refused(r, Refusal::LogCount);
+        return Err(Refusal::LogCount);
     }
     if buffer.len() < register_log::entry_place(r.entries) {
-        return refused(r, Refusal::Room);
+        return Err(Refusal::Room);
     }
     put_header(buffer, r.entries, cycles);
-    accepted(r.entries, r.last)
+    Ok(())
 }

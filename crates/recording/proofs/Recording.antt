@@ -20,9 +20,7 @@ use Rattle.register_log.specs.Encoder.{entries_bytes, entry_bytes, header_bytes,
 use Rattle.register_log.specs.declared.Write.{Write}
 use Rattle.register_log.proofs.AcceptedLaws.{Accepted}
 use Rattle.register_log.proofs.EncoderLaws.{Sound, accepts, entries-append, entries-back, entry_length, header-length, laid-1, log-passes, log-sound, writes-back}
-use Rattle.refusal.specs.Refusal.{fault}
-use Rattle.refusal.specs.declared.Answer.{Answer}
-use Rattle.refusal.specs.declared.Answer.TheVariants as answer
+use Rattle.refusal.specs.Refusal.{fault, Answer}
 use Rattle.refusal.specs.declared.Refusal.TheVariants.{Room, LogCount, CycleEarlier, LengthShort}
 use Rattle.refusal.proofs.RefusalLaws.{passed, was-sound}
 use Rattle.vsu.specs.Core.{all_at_most}
@@ -30,6 +28,7 @@ use Rattle.recorder.specs.Recorder.{add_answer, finish_answer, gives_by, none, s
 use Rattle.recorder.specs.declared.Recorder.{Recorder}
 use Rattle.recording.specs.Recording.{Added, AllTyped, Call, Finished, NoStart, Recorded, Tape, Typed, adds, adds_all, adds_by, after, after_all, answer_at, answer_of, gives, kept, last_due, nothing}
 use Rattle.recording.specs.Recording.Call.{start, add, finish}
+use Rattle.std.specs.Prelude.{Ok, Err}
 
 -- lists that grow at their end
 
@@ -70,8 +69,8 @@ last-longer (v ∷ x ∷ ws) w = last-longer (x ∷ ws) w
 -- the answer that a call hands out is its order's
 told : (a : Answer) (r q : Recorder) (b c : List ℕ) → (gives_by a r b q c).turn.answer ≡ a
 unfolding gives_by
-told answer.Accepted r q b c = refl
-told (answer.Refused why) r q b c = refl
+told (Ok done) r q b c = refl
+told (Err why) r q b c = refl
 
 -- a log's bytes are bytes
 
@@ -174,8 +173,8 @@ module _ (b : List ℕ) where
 
     start-by : (a : Answer) → Holds (kept (gives_by a none t.buffer none t.buffer)) (adds_by a start m)
     unfolding gives_by adds_by adds
-    start-by answer.Accepted = nothing-held t m h.sized (omega (arith, h.within)) h.spared
-    start-by (answer.Refused why) = nothing-held t m h.sized (omega (arith, h.within)) h.spared
+    start-by (Ok done) = nothing-held t m h.sized (omega (arith, h.within)) h.spared
+    start-by (Err why) = nothing-held t m h.sized (omega (arith, h.within)) h.spared
 
     -- Add.
 
@@ -191,7 +190,7 @@ module _ (b : List ℕ) where
         pub count : length ws < most_entries
         pub room : 16 + 8 * suc (length ws) ≤ length b
 
-      add-passed : answer_at (length b) (add w) ws ≡ answer.Accepted → Passed
+      add-passed : answer_at (length b) (add w) ws ≡ Ok tt → Passed
       unfolding answer_at
       add-passed e =
           let p = passed (ltb w.due (last_due ws)) CycleEarlier e in
@@ -242,8 +241,8 @@ module _ (b : List ℕ) where
 
       add-by : (a : Answer) → answer_at (length b) (add w) ws ≡ a → Holds (kept (gives_by a t.recorder t.buffer (record { entries = suc t.recorder.entries; last = w.due }) (sets t.buffer (entry_place edition1 t.recorder.entries) (entry_bytes edition1 w)))) (adds_by a (add w) m)
       unfolding gives_by adds_by
-      add-by answer.Accepted e = rw h.entries (add_holds (add-passed e))
-      add-by (answer.Refused why) e = h
+      add-by (Ok done) e = rw h.entries (add_holds (add-passed e))
+      add-by (Err why) e = h
 
     -- Finish.
 
@@ -272,8 +271,8 @@ module _ (b : List ℕ) where
 
       finish-by : (a : Answer) → Holds (kept (gives_by a t.recorder t.buffer t.recorder (sets t.buffer 0 (header_bytes edition1 t.recorder.entries cycles)))) (adds_by a (finish cycles) m)
       unfolding gives_by adds_by adds
-      finish-by answer.Accepted = subst (λ (n : ℕ). Holds (record { recorder = t.recorder; buffer = sets t.buffer 0 (header_bytes edition1 n cycles) }) m) (sym h.entries) finish-holds
-      finish-by (answer.Refused why) = h
+      finish-by (Ok done) = subst (λ (n : ℕ). Holds (record { recorder = t.recorder; buffer = sets t.buffer 0 (header_bytes edition1 n cycles) }) m) (sym h.entries) finish-holds
+      finish-by (Err why) = h
 
     -- Every call keeps it.
     answered-holds : (c : Call) → Typed c → Holds (after c t) (adds_by (order c) c m)
@@ -287,7 +286,7 @@ module _ (b : List ℕ) where
 
     -- What an accepted finish leaves.
 
-    module _ (cycles : ℕ) (typed : Typed (finish cycles)) (accepted : answer_at (length b) (finish cycles) ws ≡ answer.Accepted) where
+    module _ (cycles : ℕ) (typed : Typed (finish cycles)) (accepted : answer_at (length b) (finish cycles) ws ≡ Ok tt) where
       -- "18 for a length not above the last due cycle (any length will do with no entries)"
       above : not (eqb (length ws) 0) && leb cycles (last_due ws) ≡ false
       unfolding answer_at
@@ -379,8 +378,8 @@ module _ (b : List ℕ) where
 
 pub begun : (t : Tape) (a : Answer) → Holds t.buffer (kept (gives_by a none t.buffer none t.buffer)) nothing
 unfolding gives_by
-begun t answer.Accepted = nothing-held t.buffer t nothing refl (omega arith) refl
-begun t (answer.Refused why) = nothing-held t.buffer t nothing refl (omega arith) refl
+begun t (Ok done) = nothing-held t.buffer t nothing refl (omega arith) refl
+begun t (Err why) = nothing-held t.buffer t nothing refl (omega arith) refl
 
 -- The recording, whatever record and buffer there were before its first start.
 pub recording : (t : Tape) (cs : List Call) → AllTyped cs → Recorded t.buffer (after_all cs (after start t)) (adds_all (length t.buffer) cs nothing)
@@ -396,13 +395,13 @@ module _ (room : ℕ) where
 
   add-at-hand : (w : Write) (m : Added) (a : Answer) → AtHand m → AtHand (adds_by a (add w) m)
   unfolding adds_by adds
-  add-at-hand w m answer.Accepted e = omega (arith, e, longer-length m.writes w)
-  add-at-hand w m (answer.Refused why) e = e
+  add-at-hand w m (Ok done) e = omega (arith, e, longer-length m.writes w)
+  add-at-hand w m (Err why) e = e
 
   finish-at-hand : (cycles : ℕ) (m : Added) (a : Answer) → AtHand m → AtHand (adds_by a (finish cycles) m)
   unfolding adds_by adds
-  finish-at-hand cycles m answer.Accepted e = e
-  finish-at-hand cycles m (answer.Refused why) e = e
+  finish-at-hand cycles m (Ok done) e = e
+  finish-at-hand cycles m (Err why) e = e
 
   at-hand : (cs : List Call) → NoStart cs → (m : Added) → AtHand m → AtHand (adds_all room cs m)
   unfolding adds_all
@@ -423,6 +422,6 @@ worked : (adds_all 32 (turned 5 128 ∷ turned 4 0 ∷ turned 5 129 ∷ turned 9
 unfolding adds_all adds_by adds answer_at last_due fault Rattle.refusal.specs.Refusal.◌then◌
 worked = refl
 
-finish-worked : (answer_at 32 (finish 5) (record { due = 5; address = 1024; byte = 128 } ∷ []) ≡ answer.Refused LengthShort) × (answer_at 32 (finish 0) [] ≡ answer.Accepted)
+finish-worked : (answer_at 32 (finish 5) (record { due = 5; address = 1024; byte = 128 } ∷ []) ≡ Err LengthShort) × (answer_at 32 (finish 0) [] ≡ Ok tt)
 unfolding answer_at last_due fault Rattle.refusal.specs.Refusal.◌then◌
 finish-worked = (refl, refl)

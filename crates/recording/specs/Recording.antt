@@ -2,16 +2,13 @@
 -- the last one returned, and nobody else writing the buffer. Of it 02 says: "what it finishes is accepted by the opener, and a player run
 -- over it passes through the states of a unit given those writes at those cycles from power-on. Nothing beyond the log's bytes is
 -- written. A finished log read entry by entry gives the writes added, in order."
-use Rattle.std.specs.Prelude.{ℕ, suc, max, ◌<◌, ◌≡◌, not, ◌&&◌, List, [], ◌∷◌, ◌++◌, eqb, leb, ltb, drop, length, take}
+use Rattle.std.specs.Prelude.{ℕ, suc, max, ◌<◌, ◌≡◌, not, ◌&&◌, List, [], ◌∷◌, ◌++◌, eqb, leb, ltb, drop, length, take, Ok, Err}
 use Rattle.deck.specs.Calls as deck
 use Rattle.deck.specs.Player.{fresh, open_of}
-use Rattle.register_log.specs.Log.{check_of, edition1, entry_of, entry_place, handed, most_entries, writes_of}
+use Rattle.register_log.specs.Log.{check_of, edition1, entry_of, entry_place, handed, most_entries, writes_of, log_with}
 use Rattle.register_log.specs.Encoder.{log_of}
-use Rattle.register_log.specs.declared.Checked.TheVariants as checked
 use Rattle.register_log.specs.declared.Write.{Write}
-use Rattle.refusal.specs.Refusal.{fault, ◌then◌}
-use Rattle.refusal.specs.declared.Answer.{Answer}
-use Rattle.refusal.specs.declared.Answer.TheVariants.{Accepted, Refused}
+use Rattle.refusal.specs.Refusal.{fault, ◌then◌, Answer}
 use Rattle.refusal.specs.declared.Refusal.TheVariants.{Room, LogCount, CycleEarlier, LengthShort}
 use Rattle.recorder.specs.Recorder.{Gives, add_of, finish_of, start_of}
 use Rattle.recorder.specs.declared.Recorder.{Recorder}
@@ -95,10 +92,10 @@ adds (finish cycles) m = m
 
 -- a refused call adds nothing; a refused start too hands out a record without entries
 unfoldable pub adds_by : Answer → Call → Added → Added
-adds_by Accepted c m = adds c m
-adds_by (Refused why) start m = adds start m
-adds_by (Refused why) (add w) m = m
-adds_by (Refused why) (finish cycles) m = m
+adds_by (Ok done) c m = adds c m
+adds_by (Err why) start m = adds start m
+adds_by (Err why) (add w) m = m
+adds_by (Err why) (finish cycles) m = m
 
 unfoldable pub adds_all : ℕ → List Call → Added → Added
 adds_all room [] m = m
@@ -108,8 +105,8 @@ adds_all room (c ∷ cs) m = adds_all room cs (adds_by (answer_at room c m.write
 pub record Finished (log : List ℕ) (ws : List Write) (cycles : ℕ) : Type 0 where
   pub bytes : log ≡ log_of edition1 ws cycles
   -- "what it finishes is accepted by the opener", with that length as L and the added count
-  pub opens : open_of log ≡ record { player = fresh; answer = Accepted }
-  pub told : check_of edition1 log ≡ checked.Log (length ws) cycles
+  pub opens : open_of log ≡ record { player = fresh; answer = Ok tt }
+  pub told : check_of edition1 log ≡ log_with (length ws) cycles
   -- "read entry by entry gives the writes added, in order"
   pub writes : writes_of edition1 log ≡ ws
   pub entry : (i : ℕ) → entry_of edition1 log i ≡ handed ws i
@@ -124,7 +121,7 @@ pub record Recorded (b : List ℕ) (t : Tape) (m : Added) : Type 0 where
   pub last : t.recorder.last ≡ last_due m.writes
   pub answers : (c : Call) → answer_of c t ≡ answer_at (length b) c m.writes
   pub spared : drop m.longest t.buffer ≡ drop m.longest b
-  pub finishes : (cycles : ℕ) → Typed (finish cycles) → answer_at (length b) (finish cycles) m.writes ≡ Accepted → Finished (take (entry_place edition1 (length m.writes)) (after (finish cycles) t).buffer) m.writes cycles
+  pub finishes : (cycles : ℕ) → Typed (finish cycles) → answer_at (length b) (finish cycles) m.writes ≡ Ok tt → Finished (take (entry_place edition1 (length m.writes)) (after (finish cycles) t).buffer) m.writes cycles
 
 -- adds and finishes alone, as between one start and the next
 abbrev pub NoStart : List Call → Type 0

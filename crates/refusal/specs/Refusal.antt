@@ -1,8 +1,6 @@
 -- Document 01's table of refusals, and after its sixteen those of document 02: each case's number, and the value that it carries (0
 -- where it carries none).
-use Rattle.std.specs.Prelude.{ℕ, ◌≡◌, Bool, true, false}
-use Rattle.refusal.specs.declared.Answer.{Answer}
-use Rattle.refusal.specs.declared.Answer.TheVariants.{Accepted, Refused}
+use Rattle.std.specs.Prelude.{ℕ, ◌≡◌, Bool, true, false, Result, Ok, Err}
 use Rattle.refusal.specs.declared.Refusal.{Refusal}
 use Rattle.refusal.specs.declared.Refusal.TheVariants.{State, Room, LogShort, LogEdition, LogHeader, LogCount, LogSize, LogEntry, ImageSize, ImageHeader, ImageField, BeyondEnd, Place, MarkNumber, MarkUnset, MarksFull, CycleEarlier, LengthShort}
 
@@ -46,27 +44,31 @@ carried_of MarksFull = 0
 carried_of CycleEarlier = 0
 carried_of LengthShort = 0
 
+-- How a call ended: accepted, or why it was refused.
+abbrev pub Answer : Type 0
+Answer = Result Unit Refusal
+
 -- The same of an answer; an accepted call has number 0.
 
 abbrev pub answer_number : Answer → ℕ
-answer_number Accepted = 0
-answer_number (Refused r) = number_of r
+answer_number (Ok done) = 0
+answer_number (Err r) = number_of r
 
 abbrev pub answer_carried : Answer → ℕ
-answer_carried Accepted = 0
-answer_carried (Refused r) = carried_of r
+answer_carried (Ok done) = 0
+answer_carried (Err r) = carried_of r
 
 -- An order of refusals, in 01's words: "1, then 2" is `fault a State then fault b Room`. The first fault in the order is the answer;
 -- without any the call is accepted.
 
 unfoldable pub fault : Bool → Refusal → Answer
-fault true why = Refused why
-fault false why = Accepted
+fault true why = Err why
+fault false why = Ok tt
 
 infixr 5 ◌then◌
 unfoldable pub ◌then◌ : Answer → Answer → Answer
-Accepted then later = later
-(Refused why) then later = Refused why
+(Ok done) then later = later
+(Err why) then later = Err why
 
 -- an answer tells the number and the value of an order's first fault
 abbrev pub Tells : Answer → Answer → Type 0

@@ -5,7 +5,7 @@ ghost use Rattle.std.specs.Prelude.{◌≡◌};
 ghost use Rattle.refusal.specs.Refusal.{number_of, carried_of};
 
 // One case for each number, in order: 1 to 16 are 01's table, 17 and 18 are 02's.
-#[derive(Clone, Copy)]
+#[derive(Clone, Copy, Debug, PartialEq, Eq)]
 pub enum Refusal {
     State,
     Room,
@@ -25,13 +25,6 @@ pub enum Refusal {
     MarksFull,
     CycleEarlier,
     LengthShort,
-}
-
-// How a call ended.
-#[derive(Clone, Copy)]
-pub enum Answer {
-    Accepted,
-    Refused(Refusal),
 }
 
 // The number; the words beside it are what `./vsu` says of a refusal.

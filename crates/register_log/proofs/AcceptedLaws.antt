@@ -10,15 +10,13 @@ use borrow.Author.Tests.{lt-ltb, le-ltb, le-leb, lt-leb, eq-eqb, ne_eqb, ltb-tru
 use lib.Dec.{eqb, leb, ltb}
 use lib.ListN.{get_or, length}
 use Rattle.laws.proofs.Cases.{ahead, both, each, neither, ways}
-use Rattle.refusal.specs.Refusal.{fault, ◌then◌, number_of, answer_number}
-use Rattle.refusal.specs.declared.Answer.{Answer}
-use Rattle.refusal.specs.declared.Answer.TheVariants as answer
+use Rattle.refusal.specs.Refusal.{fault, ◌then◌, number_of, answer_number, Answer}
 use Rattle.refusal.specs.declared.Refusal.{Refusal}
 use Rattle.refusal.specs.declared.Refusal.TheVariants.{LogShort, LogEdition, LogHeader, LogCount, LogSize, LogEntry}
 use Rattle.refusal.proofs.RefusalLaws as order
-use Rattle.register_log.specs.Log.{Layout, entry_place, most_entries, checked_by, check_of, count_of, cycles_of, due_at, due_before, due_earlier, edition_of, entries_answer, entry_faulty, entry_unfit, header_of, log_answer, offset_of, stands_at, write_at, writes_from}
-use Rattle.register_log.specs.declared.Checked.TheVariants as checked
+use Rattle.register_log.specs.Log.{Checked, Layout, entries_in, entry_place, most_entries, checked_by, check_of, count_of, cycles_of, due_at, due_before, due_earlier, edition_of, entries_answer, entry_faulty, entry_unfit, header_of, log_answer, offset_of, stands_at, write_at, writes_from, log_with}
 use Rattle.register_log.specs.declared.Write.{Write}
+use Rattle.std.specs.Prelude.{Ok, Err}
 
 -- the number of writes
 
@@ -29,7 +27,7 @@ writes-length l b (suc n) i = ap suc (writes-length l b n (suc i))
 
 -- a row that is not the answer
 
-other : (t : Bool) (why : Refusal) {later : Answer} {told : Refusal} → (number_of why ≡ number_of told → ⊥) → (fault t why then later) ≡ answer.Refused told → later ≡ answer.Refused told
+other : (t : Bool) (why : Refusal) {later : Answer} {told : Refusal} → (number_of why ≡ number_of told → ⊥) → (fault t why then later) ≡ Err told → later ≡ Err told
 unfolding fault ◌then◌
 other true why n h = absurd (n (ap answer_number h))
 other false why n h = h
@@ -37,7 +35,7 @@ other false why n h = h
 -- the pass
 
 module _ (l : Layout) (b : List ℕ) (cycles : ℕ) where
-  pub entries-sound : (n i : ℕ) → entries_answer l b cycles n i ≡ answer.Accepted → (j : ℕ) → i ≤ j → j < i + n → entry_faulty l b cycles j ≡ false
+  pub entries-sound : (n i : ℕ) → entries_answer l b cycles n i ≡ Ok tt → (j : ℕ) → i ≤ j → j < i + n → entry_faulty l b cycles j ≡ false
   unfolding entries_answer
   entries-sound zero i e = λ j h g. absurd (omega arith)
   entries-sound (suc n) i e =
@@ -51,7 +49,7 @@ module _ (l : Layout) (b : List ℕ) (cycles : ℕ) where
     pub faulty : entry_faulty l b cycles k ≡ true
     pub sound : (j : ℕ) → i ≤ j → j < k → entry_faulty l b cycles j ≡ false
 
-  first_step : (n i k : ℕ) → (entries_answer l b cycles n (suc i) ≡ answer.Refused (LogEntry k) → First n (suc i) k) → (t : Bool) → entry_faulty l b cycles i ≡ t → (fault t (LogEntry i) then entries_answer l b cycles n (suc i)) ≡ answer.Refused (LogEntry k) → First (suc n) i k
+  first_step : (n i k : ℕ) → (entries_answer l b cycles n (suc i) ≡ Err (LogEntry k) → First n (suc i) k) → (t : Bool) → entry_faulty l b cycles i ≡ t → (fault t (LogEntry i) then entries_answer l b cycles n (suc i)) ≡ Err (LogEntry k) → First (suc n) i k
   unfolding fault ◌then◌
   first_step n i k r true f q =
       let e : i ≡ k = cc in
@@ -70,29 +68,34 @@ module _ (l : Layout) (b : List ℕ) (cycles : ℕ) where
         sound = λ j h g. ahead (λ (m : ℕ). m < k → entry_faulty l b cycles m ≡ false) (j - i) i (λ _. f) (λ m p o t. s.sound m p t) j h (omega arith) g;
       }
 
-  pub entries-first : (n i k : ℕ) → entries_answer l b cycles n i ≡ answer.Refused (LogEntry k) → First n i k
+  pub entries-first : (n i k : ℕ) → entries_answer l b cycles n i ≡ Err (LogEntry k) → First n i k
   unfolding entries_answer
   entries-first zero i k e = let z : ◌≡◌ {A = ℕ} 0 1 = cc in absurd (omega arith)
   entries-first (suc n) i k e = first_step n i k (entries-first n (suc i) k) (entry_faulty l b cycles i) refl e
 
 -- a check's answer, and the order's
 
+-- the cycles that a check found
+abbrev length_within : Checked → ℕ
+length_within (Ok log) = log.cycles
+length_within (Err why) = 0
+
 module _ (l : Layout) (b : List ℕ) where
-  pub checked-log : {count cycles : ℕ} → check_of l b ≡ checked.Log count cycles → (log_answer l b ≡ answer.Accepted) × (count ≡ count_of b) × (cycles ≡ cycles_of l b)
+  pub checked-log : {count cycles : ℕ} → check_of l b ≡ log_with count cycles → (log_answer l b ≡ Ok tt) × (count ≡ count_of b) × (cycles ≡ cycles_of l b)
   unfolding check_of
   checked-log {count} {cycles} = by (log_answer l b)
     where
-      by : (a : Answer) → checked_by a (count_of b) (cycles_of l b) ≡ checked.Log count cycles → (a ≡ answer.Accepted) × (count ≡ count_of b) × (cycles ≡ cycles_of l b)
-      by answer.Accepted e = (refl, cc, cc)
-      by (answer.Refused why) e = let z : ◌≡◌ {A = ℕ} 0 1 = cc in absurd (omega arith)
+      by : (a : Answer) → checked_by a (count_of b) (cycles_of l b) ≡ log_with count cycles → (a ≡ Ok tt) × (count ≡ count_of b) × (cycles ≡ cycles_of l b)
+      by (Ok done) e = (refl, sym (ap entries_in e), sym (ap length_within e))
+      by (Err why) e = let z : ◌≡◌ {A = ℕ} 0 1 = cc in absurd (omega arith)
 
-  pub checked_refused : {why : Refusal} → check_of l b ≡ checked.Refused why → log_answer l b ≡ answer.Refused why
+  pub checked_refused : {why : Refusal} → check_of l b ≡ Err why → log_answer l b ≡ Err why
   unfolding check_of
   checked_refused {why} = by (log_answer l b)
     where
-      by : (a : Answer) → checked_by a (count_of b) (cycles_of l b) ≡ checked.Refused why → a ≡ answer.Refused why
-      by answer.Accepted e = let z : ◌≡◌ {A = ℕ} 0 1 = cc in absurd (omega arith)
-      by (answer.Refused told) e = cc
+      by : (a : Answer) → checked_by a (count_of b) (cycles_of l b) ≡ Err why → a ≡ Err why
+      by (Ok done) e = let z : ◌≡◌ {A = ℕ} 0 1 = cc in absurd (omega arith)
+      by (Err told) e = cc
 
 -- an accepted log
 
@@ -106,7 +109,7 @@ pub record Accepted (l : Layout) (b : List ℕ) (n k : ℕ) : Type 0 where
   pub size : length b ≡ entry_place l n
   pub sound : (i : ℕ) → i < n → entry_faulty l b k i ≡ false
 
-pub accepted : (l : Layout) (b : List ℕ) (n k : ℕ) → check_of l b ≡ checked.Log n k → Accepted l b n k
+pub accepted : (l : Layout) (b : List ℕ) (n k : ℕ) → check_of l b ≡ log_with n k → Accepted l b n k
 unfolding log_answer
 accepted l b n k e =
     let c = checked-log l b e in
@@ -129,7 +132,7 @@ accepted l b n k e =
 
 -- a log refused for an entry: the index that is carried is the first at fault
 
-pub first-fault : (l : Layout) (b : List ℕ) (i : ℕ) → check_of l b ≡ checked.Refused (LogEntry i) → First l b (cycles_of l b) (count_of b) 0 i
+pub first-fault : (l : Layout) (b : List ℕ) (i : ℕ) → check_of l b ≡ Err (LogEntry i) → First l b (cycles_of l b) (count_of b) 0 i
 unfolding log_answer
 first-fault l b i e =
     entries-first l b (cycles_of l b) (count_of b) 0 i
@@ -285,5 +288,5 @@ module _ {lay : Layout} {b : List ℕ} {n k : ℕ} (a : Accepted lay b n k) (c :
       go false e = sym (ne_eqb _ _ (λ q. true≢false (sym stands_here ∙ subst (λ (x : ℕ). stands_at lay b n c x ≡ false) q e)))
 
 -- both promises of `stands_at`
-pub both-stand : (l : Layout) (b : List ℕ) (count cycle t : ℕ) {r : Bool} → r ≡ stands_at l b count cycle t → (r ≡ stands_at l b count cycle t) × ((k : ℕ) → check_of l b ≡ checked.Log count k → r ≡ eqb t (due_before (writes_from l b count 0) cycle))
+pub both-stand : (l : Layout) (b : List ℕ) (count cycle t : ℕ) {r : Bool} → r ≡ stands_at l b count cycle t → (r ≡ stands_at l b count cycle t) × ((k : ℕ) → check_of l b ≡ log_with count k → r ≡ eqb t (due_before (writes_from l b count 0) cycle))
 both-stand l b count cycle t e = (e, λ k c. e ∙ stands (accepted l b count k c) cycle t)

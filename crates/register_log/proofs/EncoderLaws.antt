@@ -11,28 +11,27 @@ use lib.Seq.{drop-append-add, drop_at, drop-drop, ext_get_or, get_or-append-add,
 use Rattle.little.specs.Little.{bytes, front, number}
 use Rattle.little.proofs.LittleLaws.{bytes-length, front_bytes}
 use Rattle.refusal.specs.Refusal.{fault, ◌then◌}
-use Rattle.refusal.specs.declared.Answer.TheVariants as answer
-use Rattle.register_log.specs.Log.{Layout, check_of, count_of, cycles_of, due_at, due_earlier, edition1, edition_of, entries_answer, entry_faulty, entry_place, entry_unfit, header_of, log_answer, most_entries, offset_of, write_at, writes_from, writes_of}
+use Rattle.register_log.specs.Log.{Layout, check_of, count_of, cycles_of, due_at, due_earlier, edition1, edition_of, entries_answer, entry_faulty, entry_place, entry_unfit, header_of, log_answer, most_entries, offset_of, write_at, writes_from, writes_of, log_with}
 use Rattle.register_log.specs.Encoder.{entries_bytes, entry_bytes, header_bytes, log_of}
-use Rattle.register_log.specs.declared.Checked.TheVariants as checked
 use Rattle.register_log.specs.declared.Write.{Write}
 use Rattle.register_log.proofs.AcceptedLaws.{Accepted, writes_at, writes-length}
+use Rattle.std.specs.Prelude.{Ok}
 
 -- Sound bytes are accepted: the converse of `accepted`.
 
-entries-pass : (l : Layout) (b : List ℕ) (cycles n i : ℕ) → ((j : ℕ) → i ≤ j → j < i + n → entry_faulty l b cycles j ≡ false) → entries_answer l b cycles n i ≡ answer.Accepted
+entries-pass : (l : Layout) (b : List ℕ) (cycles n i : ℕ) → ((j : ℕ) → i ≤ j → j < i + n → entry_faulty l b cycles j ≡ false) → entries_answer l b cycles n i ≡ Ok tt
 unfolding entries_answer fault ◌then◌
 entries-pass l b cycles zero i h = refl
 entries-pass l b cycles (suc n) i h =
     rw (h i (omega arith) (omega arith)) (entries-pass l b cycles n (suc i) (λ j p q. h j (omega arith) (omega arith)))
 
-pub log-passes : {l : Layout} {b : List ℕ} {n k : ℕ} → Accepted l b n k → log_answer l b ≡ answer.Accepted
+pub log-passes : {l : Layout} {b : List ℕ} {n k : ℕ} → Accepted l b n k → log_answer l b ≡ Ok tt
 unfolding log_answer fault ◌then◌
 log-passes {l} {b} {n} {k} a =
     rw (a.count, a.cycles, a.size, a.edition, a.header, a.offset, le-ltb (entry_place l n) l.header (omega arith), eq-eqb l.edition l.edition refl, eq-eqb l.header l.header refl, le-ltb most_entries n a.most, eq-eqb (entry_place l n) (entry_place l n) refl)
     (entries-pass l b k n 0 (λ j p q. a.sound j (omega arith)))
 
-pub accepts : {l : Layout} {b : List ℕ} {n k : ℕ} → Accepted l b n k → check_of l b ≡ checked.Log n k
+pub accepts : {l : Layout} {b : List ℕ} {n k : ℕ} → Accepted l b n k → check_of l b ≡ log_with n k
 unfolding check_of
 accepts a = rw (log-passes a, a.count, a.cycles)
 
@@ -238,5 +237,5 @@ module _ {l : Layout} (laid : Laid l) (d : Write) where
             sound = entry-sound;
           }
 
-      pub log-accepted : check_of l log ≡ checked.Log (length ws) k
+      pub log-accepted : check_of l log ≡ log_with (length ws) k
       log-accepted = accepts log-sound

@@ -10,20 +10,13 @@ use borrow.Author.Tests.{lt-ltb, le-ltb, eq-eqb, ne_eqb}
 use lib.Dec.{eqb, leb, ltb}
 use lib.ListN.{get_or, length}
 use Rattle.little.specs.Little.{number}
-use Rattle.refusal.specs.Refusal.{fault, ◌then◌, Tells}
-use Rattle.refusal.specs.declared.Answer.{Answer}
-use Rattle.refusal.specs.declared.Answer.TheVariants.{Accepted, Refused}
+use Rattle.refusal.specs.Refusal.{fault, ◌then◌, Tells, Answer}
 use Rattle.refusal.specs.declared.Refusal.{Refusal}
 use Rattle.refusal.specs.declared.Refusal.TheVariants.{LogShort, LogEdition, LogHeader, LogCount, LogSize, LogEntry}
 use Rattle.refusal.proofs.RefusalLaws as order
-use Rattle.register_log.specs.Log.{Layout, entry_place, most_entries, checked_by, checked_answer, counted_answer, entries_answer, entry_answer, log_answer, due_before, due_before_of, count_in, entry_in, handed, writes_from, check_of, count_of, cycles_of, due_at, due_earlier, edition_of, entry_faulty, entry_unfit, header_of, offset_of, write_at}
-use Rattle.register_log.specs.declared.Checked.{Checked}
-use Rattle.register_log.specs.declared.Checked.TheVariants as checked
-use Rattle.register_log.specs.declared.Counted.{Counted}
-use Rattle.register_log.specs.declared.Counted.TheVariants as counts
-use Rattle.register_log.specs.declared.Read.{Read}
-use Rattle.register_log.specs.declared.Read.TheVariants as entries
+use Rattle.register_log.specs.Log.{Layout, entry_place, most_entries, checked_by, checked_answer, counted_answer, entries_answer, entry_answer, log_answer, due_before, due_before_of, count_in, entry_in, handed, writes_from, check_of, count_of, cycles_of, due_at, due_earlier, edition_of, entry_faulty, entry_unfit, header_of, offset_of, write_at, Checked, Counted, Read, log_with}
 use Rattle.register_log.specs.declared.Write.{Write}
+use Rattle.std.specs.Prelude.{Ok, Err, Some, None}
 
 -- the pass over the entries
 
@@ -36,7 +29,7 @@ unfolding entry_unfit due_at
 tested l b cycles i p q r s e = rw (q, r, p, s) at e
 
 module _ (l : Layout) (b : List ℕ) (count cycles i : ℕ) where
-  pub entries-fault : i < count → entry_faulty l b cycles i ≡ true → entries_answer l b cycles (count - i) i ≡ Refused (LogEntry i)
+  pub entries-fault : i < count → entry_faulty l b cycles i ≡ true → entries_answer l b cycles (count - i) i ≡ Err (LogEntry i)
   unfolding entries_answer
   entries-fault h f = rw (left count i h) (order.ends _ (order.at-fault (LogEntry i) f))
 
@@ -44,7 +37,7 @@ module _ (l : Layout) (b : List ℕ) (count cycles i : ℕ) where
   unfolding entries_answer
   entries-on h f = rw (left count i h, add-one i) (order.on _ (order.sound (LogEntry i) f))
 
-  pub entries-end : count ≤ i → entries_answer l b cycles (count - i) i ≡ Accepted
+  pub entries-end : count ≤ i → entries_answer l b cycles (count - i) i ≡ Ok tt
   unfolding entries_answer
   entries-end h = let z : count - i ≡ 0 = omega arith in rw z
 
@@ -54,36 +47,36 @@ earlier-next l b i p q = rw (add-one i, q, p)
 
 -- an answer of the pass is the check's, by the answer of its entries
 
-pub by-refused : {a : Answer} {why : Refusal} (count cycles : ℕ) → a ≡ Refused why → checked.Refused why ≡ checked_by a count cycles
+pub by-refused : {a : Answer} {why : Refusal} (count cycles : ℕ) → a ≡ Err why → Err why ≡ checked_by a count cycles
 by-refused count cycles h = rw h
 
-pub by-accepted : {a : Answer} (count cycles : ℕ) → a ≡ Accepted → checked.Log count cycles ≡ checked_by a count cycles
+pub by-accepted : {a : Answer} (count cycles : ℕ) → a ≡ Ok tt → log_with count cycles ≡ checked_by a count cycles
 by-accepted count cycles h = rw h
 
 -- the header, row by row: each law has the tests before it passed
 
 module _ (l : Layout) (b : List ℕ) where
-  pub too_short : length b < l.header → log_answer l b ≡ Refused LogShort
+  pub too_short : length b < l.header → log_answer l b ≡ Err LogShort
   unfolding log_answer
   too_short h = order.ends _ (order.at-fault LogShort (lt-ltb (length b) l.header h))
 
   module _ (long : l.header ≤ length b) {e : ℕ} (p : e ≡ edition_of b) where
-    pub wrong-edition : (e ≡ l.edition → ⊥) → log_answer l b ≡ Refused LogEdition
+    pub wrong-edition : (e ≡ l.edition → ⊥) → log_answer l b ≡ Err LogEdition
     unfolding log_answer fault ◌then◌
     wrong-edition n = rw (le-ltb (length b) l.header long, ← p, ne_eqb e l.edition n)
 
     module _ (v : e ≡ l.edition) {h o : ℕ} (q : h ≡ header_of b) (r : o ≡ offset_of b) where
-      pub wrong-header : (not (eqb h l.header) || not (eqb o l.header)) ≡ true → log_answer l b ≡ Refused LogHeader
+      pub wrong-header : (not (eqb h l.header) || not (eqb o l.header)) ≡ true → log_answer l b ≡ Err LogHeader
       unfolding log_answer fault ◌then◌
       wrong-header t = rw (le-ltb (length b) l.header long, ← p, eq-eqb e l.edition v, ← q, ← r, t)
 
       module _ (t : (not (eqb h l.header) || not (eqb o l.header)) ≡ false) {c : ℕ} (s : c ≡ count_of b) where
-        pub too_many : most_entries < c → log_answer l b ≡ Refused LogCount
+        pub too_many : most_entries < c → log_answer l b ≡ Err LogCount
         unfolding log_answer fault ◌then◌
         too_many g = rw (le-ltb (length b) l.header long, ← p, eq-eqb e l.edition v, ← q, ← r, t, ← s, lt-ltb most_entries c g)
 
         module _ (g : c ≤ most_entries) {z : ℕ} (w : z ≡ entry_place l c) where
-          pub wrong_size : (length b ≡ z → ⊥) → log_answer l b ≡ Refused LogSize
+          pub wrong_size : (length b ≡ z → ⊥) → log_answer l b ≡ Err LogSize
           unfolding log_answer fault ◌then◌
           wrong_size n =
               rw (le-ltb (length b) l.header long, ← p, eq-eqb e l.edition v, ← q, ← r, t, ← s, le-ltb most_entries c g, ← w, ne_eqb (length b) z n)
@@ -128,13 +121,13 @@ module _ (l : Layout) (b : List ℕ) where
 -- what stands at a place of the writes
 
 module _ (l : Layout) (b : List ℕ) where
-  pub handed-in : (n i j : ℕ) → j < n → handed (writes_from l b n i) j ≡ entries.Write (write_at l b (i + j))
+  pub handed-in : (n i j : ℕ) → j < n → handed (writes_from l b n i) j ≡ Ok (Some (write_at l b (i + j)))
   unfolding handed writes_from
   handed-in zero i j h = absurd (omega arith)
-  handed-in (suc n) i zero h = ap (λ (k : ℕ). entries.Write (write_at l b k)) (sym (add-zero i))
-  handed-in (suc n) i (suc j) h = handed-in n (suc i) j (omega arith) ∙ ap (λ (k : ℕ). entries.Write (write_at l b k)) (omega arith)
+  handed-in (suc n) i zero h = ap (λ (k : ℕ). Ok (Some (write_at l b k))) (sym (add-zero i))
+  handed-in (suc n) i (suc j) h = handed-in n (suc i) j (omega arith) ∙ ap (λ (k : ℕ). Ok (Some (write_at l b k))) (omega arith)
 
-  pub handed-past : (n i j : ℕ) → n ≤ j → handed (writes_from l b n i) j ≡ entries.Ended
+  pub handed-past : (n i j : ℕ) → n ≤ j → handed (writes_from l b n i) j ≡ Ok None
   unfolding handed writes_from
   handed-past zero i j h = refl
   handed-past (suc n) i zero h = absurd (omega arith)
@@ -143,23 +136,23 @@ module _ (l : Layout) (b : List ℕ) where
 -- the answers by a check's answer
 
 module _ {c : Checked} (l : Layout) (b : List ℕ) where
-  pub entry_read : {count cycles i : ℕ} {w : Write} → c ≡ checked.Log count cycles → i < count → w ≡ write_at l b i → entries.Write w ≡ entry_in l c b i
+  pub entry_read : {count cycles i : ℕ} {w : Write} → c ≡ log_with count cycles → i < count → w ≡ write_at l b i → Ok (Some w) ≡ entry_in l c b i
   unfolding entry_in
-  entry_read {i = i} q h e = rw (q, handed-in l b _ 0 i h, e) (ap (λ (k : ℕ). entries.Write (write_at l b k)) (omega arith))
+  entry_read {i = i} q h e = rw (q, handed-in l b _ 0 i h, e) (ap (λ (k : ℕ). Ok (Some (write_at l b k))) (omega arith))
 
-  pub entry-ended : {count cycles i : ℕ} → c ≡ checked.Log count cycles → count ≤ i → entries.Ended ≡ entry_in l c b i
+  pub entry-ended : {count cycles i : ℕ} → c ≡ log_with count cycles → count ≤ i → Ok None ≡ entry_in l c b i
   unfolding entry_in
   entry-ended {i = i} q h = rw (q, handed-past l b _ 0 i h)
 
-  pub entry-refused : {why : Refusal} (i : ℕ) → c ≡ checked.Refused why → entries.Refused why ≡ entry_in l c b i
+  pub entry-refused : {why : Refusal} (i : ℕ) → c ≡ Err why → Err why ≡ entry_in l c b i
   unfolding entry_in
   entry-refused i q = rw q
 
-  pub counted-in : {count cycles n : ℕ} (cycle : ℕ) → c ≡ check_of l b → c ≡ checked.Log count cycles → n ≡ due_before (writes_from l b count 0) cycle → counts.Number n ≡ due_before_of l b cycle
+  pub counted-in : {count cycles n : ℕ} (cycle : ℕ) → c ≡ check_of l b → c ≡ log_with count cycles → n ≡ due_before (writes_from l b count 0) cycle → Ok n ≡ due_before_of l b cycle
   unfolding count_in
   counted-in cycle p q e = rw (← p, q, e)
 
-  pub counted-refused : {why : Refusal} (cycle : ℕ) → c ≡ check_of l b → c ≡ checked.Refused why → counts.Refused why ≡ due_before_of l b cycle
+  pub counted-refused : {why : Refusal} (cycle : ℕ) → c ≡ check_of l b → c ≡ Err why → Err why ≡ due_before_of l b cycle
   unfolding count_in
   counted-refused cycle p q = rw (← p, q)
 
@@ -173,30 +166,30 @@ unfolding check_of
 check-answer l b = by (log_answer l b)
   where
     by : (a : Answer) → checked_answer (checked_by a (count_of b) (cycles_of l b)) ≡ a
-    by Accepted = refl
-    by (Refused why) = refl
+    by (Ok done) = refl
+    by (Err why) = refl
 
 entry-answer : (l : Layout) (b : List ℕ) (c : Checked) (i : ℕ) → entry_answer (entry_in l c b i) ≡ checked_answer c
 unfolding entry_in handed
-entry-answer l b (checked.Log count cycles) i = none (writes_from l b count 0) i
+entry-answer l b (Ok log) i = none (writes_from l b log.count 0) i
   where
-    none : (ws : List Write) (j : ℕ) → entry_answer (handed ws j) ≡ Accepted
+    none : (ws : List Write) (j : ℕ) → entry_answer (handed ws j) ≡ Ok tt
     none [] j = refl
     none (w ∷ ws) zero = refl
     none (w ∷ ws) (suc j) = none ws j
-entry-answer l b (checked.Refused why) i = refl
+entry-answer l b (Err why) i = refl
 
 counted-answer : (l : Layout) (b : List ℕ) (c : Checked) (cycle : ℕ) → counted_answer (count_in l c b cycle) ≡ checked_answer c
 unfolding count_in
-counted-answer l b (checked.Log count cycles) cycle = refl
-counted-answer l b (checked.Refused why) cycle = refl
+counted-answer l b (Ok log) cycle = refl
+counted-answer l b (Err why) cycle = refl
 
 module _ (l : Layout) (b : List ℕ) where
   pub check-tells : {r : Checked} → r ≡ check_of l b → (r ≡ check_of l b) × Tells (checked_answer r) (log_answer l b)
   check-tells e = (e, order.tells (ap checked_answer e ∙ check-answer l b))
 
   -- a header at fault
-  pub refused : {why : Refusal} → log_answer l b ≡ Refused why → (checked.Refused why ≡ check_of l b) × Tells (Refused why) (log_answer l b)
+  pub refused : {why : Refusal} → log_answer l b ≡ Err why → (Err why ≡ check_of l b) × Tells (Err why) (log_answer l b)
   unfolding check_of
   refused h = check-tells (by-refused (count_of b) (cycles_of l b) h)
 

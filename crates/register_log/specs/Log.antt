@@ -1,16 +1,10 @@
 -- The register log, in document 01's words.
-use Rattle.std.specs.Prelude.{ℕ, zero, suc, ◌+◌, ◌*◌, Bool, cond, not, ◌&&◌, ◌||◌, List, [], ◌∷◌, eqb, leb, ltb, get_or, length}
+use Rattle.std.specs.Prelude.{ℕ, zero, suc, ◌+◌, ◌*◌, Bool, cond, not, ◌&&◌, ◌||◌, List, [], ◌∷◌, eqb, leb, ltb, get_or, length, Option, Some, None, Result, Ok, Err}
 use Rattle.little.specs.Little.{number}
-use Rattle.refusal.specs.Refusal.{fault, ◌then◌}
-use Rattle.refusal.specs.declared.Answer.{Answer}
-use Rattle.refusal.specs.declared.Answer.TheVariants.{Accepted, Refused}
+use Rattle.refusal.specs.Refusal.{fault, ◌then◌, Answer}
+use Rattle.refusal.specs.declared.Refusal.{Refusal}
 use Rattle.refusal.specs.declared.Refusal.TheVariants.{LogShort, LogEdition, LogHeader, LogCount, LogSize, LogEntry}
-use Rattle.register_log.specs.declared.Checked.{Checked}
-use Rattle.register_log.specs.declared.Checked.TheVariants as checked
-use Rattle.register_log.specs.declared.Counted.{Counted}
-use Rattle.register_log.specs.declared.Counted.TheVariants as counted
-use Rattle.register_log.specs.declared.Read.{Read}
-use Rattle.register_log.specs.declared.Read.TheVariants as entries
+use Rattle.register_log.specs.declared.Log.{Log}
 use Rattle.register_log.specs.declared.Write.{Write}
 
 -- How an edition lays its bytes out: its number, the header's and an entry's size, the width of a due cycle and of L.
@@ -71,7 +65,7 @@ entry_faulty l b cycles i = entry_unfit l b cycles (due_earlier l b i) i
 
 -- 8, "entry at fault: carries the first such index": the n entries from i on
 unfoldable pub entries_answer : Layout → List ℕ → ℕ → ℕ → ℕ → Answer
-entries_answer l b cycles zero i = Accepted
+entries_answer l b cycles zero i = Ok tt
 entries_answer l b cycles (suc n) i = fault (entry_faulty l b cycles i) (LogEntry i) then entries_answer l b cycles n (suc i)
 
 -- "Count at most 1,000,000"
@@ -90,16 +84,23 @@ log_answer l b =
 
 -- what a check answers: the number of entries and L, or the refusal
 
+abbrev pub Checked : Type 0
+Checked = Result Log Refusal
+
+-- an accepted log of so many entries and cycles
+abbrev pub log_with : ℕ → ℕ → Checked
+log_with count cycles = Ok (record { count = count; cycles = cycles })
+
 abbrev pub checked_by : Answer → ℕ → ℕ → Checked
-checked_by Accepted count cycles = checked.Log count cycles
-checked_by (Refused why) count cycles = checked.Refused why
+checked_by (Ok done) count cycles = log_with count cycles
+checked_by (Err why) count cycles = Err why
 
 unfoldable pub check_of : Layout → List ℕ → Checked
 check_of l b = checked_by (log_answer l b) (count_of b) (cycles_of l b)
 
 abbrev pub checked_answer : Checked → Answer
-checked_answer (checked.Log count cycles) = Accepted
-checked_answer (checked.Refused why) = Refused why
+checked_answer (Ok log) = Ok tt
+checked_answer (Err why) = Err why
 
 -- Writes.
 
@@ -118,22 +119,30 @@ due_before (w ∷ ws) cycle = cond (ltb w.due cycle) 1 0 + due_before ws cycle
 
 -- "Reading a log entry past the last answers that the log has ended."; bytes that are no log are refused
 
+-- what a read answers: a write, that the log has ended, or the refusal
+abbrev pub Read : Type 0
+Read = Result (Option Write) Refusal
+
 -- the write at a place of a list, or that the list has ended
 unfoldable pub handed : List Write → ℕ → Read
-handed [] i = entries.Ended
-handed (w ∷ ws) zero = entries.Write w
+handed [] i = Ok None
+handed (w ∷ ws) zero = Ok (Some w)
 handed (w ∷ ws) (suc i) = handed ws i
 
 unfoldable pub entry_in : Layout → Checked → List ℕ → ℕ → Read
-entry_in l (checked.Log count cycles) b i = handed (writes_from l b count 0) i
-entry_in l (checked.Refused why) b i = entries.Refused why
+entry_in l (Ok log) b i = handed (writes_from l b log.count 0) i
+entry_in l (Err why) b i = Err why
 
 abbrev pub entry_of : Layout → List ℕ → ℕ → Read
 entry_of l b i = entry_in l (check_of l b) b i
 
+-- what counting the entries due before a cycle answers
+abbrev pub Counted : Type 0
+Counted = Result ℕ Refusal
+
 unfoldable pub count_in : Layout → Checked → List ℕ → ℕ → Counted
-count_in l (checked.Log count cycles) b cycle = counted.Number (due_before (writes_from l b count 0) cycle)
-count_in l (checked.Refused why) b cycle = counted.Refused why
+count_in l (Ok log) b cycle = Ok (due_before (writes_from l b log.count 0) cycle)
+count_in l (Err why) b cycle = Err why
 
 abbrev pub due_before_of : Layout → List ℕ → ℕ → Counted
 due_before_of l b cycle = count_in l (check_of l b) b cycle
@@ -141,18 +150,18 @@ due_before_of l b cycle = count_in l (check_of l b) b cycle
 -- the answer of a read, and of a count
 
 abbrev pub entry_answer : Read → Answer
-entry_answer (entries.Write w) = Accepted
-entry_answer entries.Ended = Accepted
-entry_answer (entries.Refused why) = Refused why
+entry_answer (Ok (Some w)) = Ok tt
+entry_answer (Ok None) = Ok tt
+entry_answer (Err why) = Err why
 
 abbrev pub counted_answer : Counted → Answer
-counted_answer (counted.Number n) = Accepted
-counted_answer (counted.Refused why) = Refused why
+counted_answer (Ok n) = Ok tt
+counted_answer (Err why) = Err why
 
 -- A reader's place after a read: one on where it stands at an entry, else the same.
 unfoldable pub place_after : Checked → ℕ → ℕ
-place_after (checked.Log count cycles) i = cond (ltb i count) (suc i) i
-place_after (checked.Refused why) i = i
+place_after (Ok log) i = cond (ltb i log.count) (suc i) i
+place_after (Err why) i = i
 
 -- What inner contracts and a quick test of the code go by; nothing to believe.
 
@@ -164,5 +173,5 @@ stands_at l b count cycle k =
 
 -- how many entries a reader has to hand out
 abbrev pub entries_in : Checked → ℕ
-entries_in (checked.Log count cycles) = count
-entries_in (checked.Refused why) = 0
+entries_in (Ok log) = log.count
+entries_in (Err why) = 0

@@ -6,7 +6,7 @@ pub mod reader;
 ghost use Rattle.std.specs.Prelude.{◌≡◌, ℕ, ◌+◌, ◌<◌, ◌≤◌, eqb, length};
 ghost use Rattle.little.specs.Little.{number};
 ghost use Rattle.refusal.specs.Refusal.{Tells};
-ghost use Rattle.register_log.specs.Log.{edition1, entry_place, most_entries, log_answer, checked_by, check_of, checked_answer, entries_answer, write_at, due_at, due_before, writes_from, entry_in, entry_of, entry_answer, due_before_of, counted_answer, due_earlier, stands_at};
+ghost use Rattle.register_log.specs.Log.{edition1, entry_place, most_entries, log_answer, checked_by, check_of, checked_answer, entries_answer, write_at, due_at, due_before, writes_from, entry_in, entry_of, entry_answer, due_before_of, counted_answer, due_earlier, stands_at, log_with};
 
 use refusal::Refusal;
 
@@ -17,26 +17,11 @@ pub struct Write {
     pub byte: u8,
 }
 
-// What a check answers: the number of entries and L, or the refusal.
+// What a check finds of a log: the number of its entries, and L.
 #[derive(Clone, Copy)]
-pub enum Checked {
-    Log { count: u32, cycles: u32 },
-    Refused(Refusal),
-}
-
-// What reading an entry answers.
-#[derive(Clone, Copy)]
-pub enum Read {
-    Write(Write),
-    Ended,
-    Refused(Refusal),
-}
-
-// What counting the entries due before a cycle answers.
-#[derive(Clone, Copy)]
-pub enum Counted {
-    Number(u32),
-    Refused(Refusal),
+pub struct Log {
+    pub count: u32,
+    pub cycles: u32,
 }
 
 // Where an entry's bytes begin. (`as`: Rust has no From of a u32 for usize.)
@@ -73,7 +58,7 @@ fn due_in(log: &[u8], at: usize) -> u32
     u32::from_le_bytes([log[at], log[at + 1], log[at + 2], log[at + 3]])
 }
 
-fn check_entries(log: &[u8], count: u32, cycles: u32) -> Checked
+fn check_entries(log: &[u8], count: u32, cycles: u32) -> Result<Log, Refusal>
     requires { (count ≤ most_entries) × (length log.now ≡ entry_place edition1 count) }
     ensures { result ≡ checked_by (entries_answer edition1 log.now cycles count 0) count cycles }
 {
@@ -82,53 +67,53 @@ fn check_entries(log: &[u8], count: u32, cycles: u32) -> Checked
         let at = entry_place(i);
         let due = due_in(log, at);
         if (log[at + 7] != 0) | (due >= cycles) | (due < before) {
-            return Checked::Refused(Refusal::LogEntry(i));
+            return Err(Refusal::LogEntry(i));
         }
         before = due;
     }
-    Checked::Log { count, cycles }
+    Ok(Log { count, cycles })
 }
 
 // Refusals 3 to 8, or the number of entries and L.
-pub fn check_log(log: &[u8]) -> Checked
+pub fn check_log(log: &[u8]) -> Result<Log, Refusal>
     ensures { (result ≡ check_of edition1 log.now) × Tells (checked_answer result) (log_answer edition1 log.now) }
 {
     if log.len() < 16 {
-        return Checked::Refused(Refusal::LogShort);
+        return Err(Refusal::LogShort);
     }
     if little::u16_at(log, 0) != 1 {
-        return Checked::Refused(Refusal::LogEdition);
+        return Err(Refusal::LogEdition);
     }
     if (little::u16_at(log, 2) != 16) | (little::u32_at(log, 8) != 16) {
-        return Checked::Refused(Refusal::LogHeader);
+        return Err(Refusal::LogHeader);
     }
     let count = little::u32_at(log, 4);
     if count > 1_000_000 {
-        return Checked::Refused(Refusal::LogCount);
+        return Err(Refusal::LogCount);
     }
     if log.len() != entry_place(count) {
-        return Checked::Refused(Refusal::LogSize);
+        return Err(Refusal::LogSize);
     }
     check_entries(log, count, little::u32_at(log, 12))
 }
 
 // The write of an entry, or that the log has ended, by the answer of a check.
-pub(crate) fn entry_in(log: &[u8], checked: Checked, index: u32) -> Read
+pub(crate) fn entry_in(
+    log: &[u8],
+    checked: Result<Log, Refusal>,
+    index: u32,
+) -> Result<Option<Write>, Refusal>
     ensures { (result ≡ entry_in edition1 checked log.now index) × Tells (entry_answer result) (checked_answer checked) }
 {
-    match checked {
-        Checked::Log { count, .. } => {
-            if index < count {
-                return Read::Write(write_at(log, index));
-            }
-            Read::Ended
-        }
-        Checked::Refused(why) => Read::Refused(why),
+    let Log { count, .. } = checked?;
+    if index < count {
+        return Ok(Some(write_at(log, index)));
     }
+    Ok(None)
 }
 
 // The same of any bytes, by a check of its own.
-pub fn entry(log: &[u8], index: u32) -> Read
+pub fn entry(log: &[u8], index: u32) -> Result<Option<Write>, Refusal>
     ensures { (result ≡ entry_of edition1 log.now index) × Tells (entry_answer result) (log_answer edition1 log.now) }
 {
     entry_in(log, check_log(log), index)
@@ -147,13 +132,11 @@ fn count_due(log: &[u8], count: u32, cycle: u32) -> u32
 }
 
 // The number of entries due before a cycle.
-pub fn due_before(log: &[u8], cycle: u32) -> Counted
+pub fn due_before(log: &[u8], cycle: u32) -> Result<u32, Refusal>
     ensures { (result ≡ due_before_of edition1 log.now cycle) × Tells (counted_answer result) (log_answer edition1 log.now) }
 {
-    match check_log(log) {
-        Checked::Log { count, .. } => Counted::Number(count_due(log, count, cycle)),
-        Checked::Refused(why) => Counted::Refused(why),
-    }
+    let Log { count, .. } = check_log(log)?;
+    Ok(count_due(log, count, cycle))
 }
 
 // The due cycle of the entry before, 0 for the first.
@@ -169,7 +152,7 @@ fn due_earlier(log: &[u8], index: u32) -> u32
 // Whether `number` entries of an accepted log of `count` are due before `cycle`, by two reads and no pass.
 pub fn stands_at(log: &[u8], count: u32, cycle: u32, number: u32) -> bool
     ensures value { result ≡ stands_at edition1 log.now count cycle number }
-    ensures by_index { (k : ℕ) → check_of edition1 log.now ≡ Checked.Log count k → result ≡ eqb number (due_before (writes_from edition1 log.now count 0) cycle) }
+    ensures by_index { (k : ℕ) → check_of edition1 log.now ≡ log_with count k → result ≡ eqb number (due_before (writes_from edition1 log.now count 0) cycle) }
 {
     let earlier = due_earlier(log, number);
     let next = due_at(log, number);

@@ -1,11 +1,11 @@
 use Rattle.register_log.proofs.ReaderLaws as laws
 use Rattle.register_log.proofs.reader.place_after.Goals as goal
 
-pub returns-then-at-count : goal.returns-then-at-count
-returns-then-at-count c = laws.after-entry _ c.in-Log.is c.if-at-count.true
+pub returns-in-Ok : goal.returns-in-Ok
+returns-in-Ok c = laws.after-entry _ c.in-Ok.is c.if-at-log.true
 
-pub returns-else-at-count : goal.returns-else-at-count
-returns-else-at-count c = laws.after-end _ c.in-Log.is c.if-at-count.false
+pub returns-in-Ok-2 : goal.returns-in-Ok-2
+returns-in-Ok-2 c = laws.after-end _ c.in-Ok.is c.if-at-log.false
 
-pub returns-in-Refused : goal.returns-in-Refused
-returns-in-Refused c = laws.after-refused _ c.in-Refused.is
+pub returns-in-Err : goal.returns-in-Err
+returns-in-Err c = laws.after-refused _ c.in-Err.is
