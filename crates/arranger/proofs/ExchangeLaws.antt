@@ -17,8 +17,7 @@ use Rattle.voice.specs.declared.channel_enum.Kind.TheVariants as Kinds
 use Rattle.voice.specs.declared.channel_enum.Voice.{Voice}
 use Rattle.vsu.proofs.CoreLaws.{unit-refused, write-gives}
 use Rattle.vsu.proofs.RangeLaws.{Six, range-facts, write_keeps}
-use Rattle.vsu.specs.Core.{between, decode_of, in_range, with_voices, write, write_of, write_to, written_by}
-use Rattle.vsu.specs.declared.unit.Written.{Written}
+use Rattle.vsu.specs.Core.{between, decode_of, in_range, with_voices, write, write_of, write_to, written_by, Written}
 use Rattle.vsu.specs.declared.unit.Register.{Register}
 use Rattle.vsu.specs.declared.unit.Register.TheVariants.{Wave, Modulation, Channel, Stop, Nothing}
 use Rattle.vsu.specs.declared.unit.Vsu.{Vsu}

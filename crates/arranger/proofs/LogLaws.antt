@@ -7,8 +7,7 @@ use Rattle.deck.proofs.UnbrokenLaws.{Bytes, state-keeps}
 use Rattle.deck.specs.Unbroken.{apply_at, frames_in, frames_of, state_at}
 use Rattle.register_log.proofs.EncoderLaws.{Fits, Laid, Sound, log-accepted}
 use Rattle.register_log.specs.Encoder.{log_of}
-use Rattle.register_log.specs.Log.{Layout, check_of}
-use Rattle.register_log.specs.declared.Checked.TheVariants as checked
+use Rattle.register_log.specs.Log.{Layout, check_of, log_with}
 use Rattle.register_log.specs.declared.Write.{Write}
 use Rattle.vsu.proofs.RangeLaws.{write_keeps}
 use Rattle.vsu.specs.Core.{cycle, in_range, made, with_mutes, write}
@@ -46,7 +45,7 @@ module _ (w x : Write) (ws : List Write) where
     due-stays d (v ∷ vs) (suc i) = due-stays d vs i
 
     -- It still is a log, of as many entries and of the same length.
-    pub still-a-log : {l : Layout} → Laid l → (d : Write) (vs : List Write) (k : ℕ) → Sound l d (one vs) k → check_of l (log_of l (other vs) k) ≡ checked.Log (length (one vs)) k
+    pub still-a-log : {l : Layout} → Laid l → (d : Write) (vs : List Write) (k : ℕ) → Sound l d (one vs) k → check_of l (log_of l (other vs) k) ≡ log_with (length (one vs)) k
     still-a-log {l} laid d vs k s =
         log-accepted laid d (other vs) k
         (record {
@@ -56,7 +55,7 @@ module _ (w x : Write) (ws : List Write) where
           below = each-stays (λ v. v.due < k) d vs s.below;
           rises = λ i h. rw (due-stays d vs i, due-stays d vs (suc i)) (s.rises i (rw (length-stays vs) at h));
         })
-        ∙ ap (λ n. checked.Log n k) (length-stays vs)
+        ∙ ap (λ n. log_with n k) (length-stays vs)
 
 module _ (w x : Write) (ws : List Write) (due : w.due ≡ x.due) (y : may_exchange w.address w.byte x.address x.byte ≡ true) where
   apply-exchanged : (vs : List Write) (t : ℕ) (u : Vsu) → Bytes (one w x ws vs) → in_range u ≡ true → apply_at (one w x ws vs) t u ≡ apply_at (other w x ws vs) t u

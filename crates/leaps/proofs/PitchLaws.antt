@@ -3,7 +3,7 @@
 use Prim.Native.Nat.{ℕ, zero, suc, ◌+◌, ◌-◌, ◌*◌, ◌/◌, ◌%◌, ◌<◌, ◌≤◌}
 use mathlib.Core.Path.{◌≡◌, refl, sym, ap, ap₂, ◌∙◌}
 use mathlib.Core.Bool.{Bool, true, false, cond}
-use native.Mathlib.Nat.{add-zero, add-suc, add_assoc, suc-mod, mod-lt, mod-eq_of_lt, mod_self, div-add-mod', div-eq_of_lt, div-eq_of_lt-le, div-lt_iff_lt-mul, lt_of_mul-lt-mul_left, mul_comm, add-mul-mod_self_left, add-mul-div_left}
+use native.Mathlib.Nat.{add-zero, add-suc, add_assoc, suc-mod, mod-lt, mod-eq_of_lt, mod_self, div-add-mod', div-eq_of_lt, div-eq_of_lt-le, div-lt_iff_lt-mul, lt_of_mul-lt-mul_left, mul_comm, zero-add, zero-mul, add-mul-mod_self_left, add-mul-div_left}
 use native.Mathlib.Omega.{arith}
 use borrow.Author.Tests.{leb-true, leb-false}
 use lib.Dec.{leb}
@@ -198,3 +198,19 @@ module _ {period frequency : ℕ} {p q : Pitch} (k : Pitchable period frequency 
         sym
         (i ∙ ap (shifted m) (after-near period frequency q rest.tick left (omega arith))
         ∙ (λ j. record { pitch = sym c j; samples = add-zero m j }))
+
+  -- k samples on: k times their distance
+  module _ {far : ℕ} (e : far ≡ pitch_far period frequency q) where
+    next-samples : (k left : ℕ) → pitch_after period frequency (k * (far + 1) + left) q ≡ shifted k (pitch_after period frequency left q)
+    next-samples zero left = rw (zero-mul, zero-add, zero-add)
+    next-samples (suc k) left =
+        next-sample 0 (suc k * (far + 1) + left) e (rw zero-add) (omega arith)
+        ∙ ap₂ (λ (m l : ℕ). shifted m (pitch_after period frequency l q)) (omega arith) (omega arith)
+        ∙ ap (shifted 1) (next-samples k left)
+        ∙ ap (λ (m : ℕ). record { pitch = (pitch_after period frequency left q).pitch; samples = m }) (omega arith)
+
+    pub all-samples : (n : ℕ) {o : Pitch} → o ≡ pitch_leap period (n % (far + 1)) q → record { pitch = o; samples = n / (far + 1) } ≡ pitch_after period frequency n q
+    all-samples n c =
+        let z : 0 < far + 1 = omega arith in
+        last-sample (n / (far + 1)) (n % (far + 1)) e
+        (ap (λ (l : ℕ). pitch_after period frequency l q) (sym (div-add-mod' n (far + 1))) ∙ next-samples (n / (far + 1)) (n % (far + 1))) (mod-lt n z) c

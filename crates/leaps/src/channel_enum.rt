@@ -14,13 +14,13 @@ use voice::channel_enum::{Kind, Voice};
 // No sweep is further than this.
 const FURTHEST: u32 = SWEEP_SLOW_CYCLE_COUNT - 1;
 
+#[tactic(auto, unfolding(crate::specs::ChannelEnum::kind_far))]
 fn kind_far(k: Kind) -> u32
     ensures { result ≡ kind_far k }
 {
     match k {
-        Kind::Wave { .. } => NEVER,
         Kind::Swept { sweep, .. } => sweep_modulate::far(sweep),
-        Kind::Noise { .. } => NEVER,
+        Kind::Wave { .. } | Kind::Noise { .. } => NEVER,
     }
 }
 
@@ -38,6 +38,7 @@ fn channel_leap(c: Channel, n: u32) -> Channel
     requires { (n ≤ live_far c.live) × ((c.envelope.tick ≤ 307218) × (n ≤ 153608)) }
     ensures { result ≡ channel_leap n c }
 {
+    // Not `Channel { live, envelope, ..c }`: a play then takes 15 in 1,000 instructions more.
     let mut d = c;
     d.live = live::leap(c.live, n);
     d.envelope = envelope::leap(c.envelope, n);
@@ -46,12 +47,12 @@ fn channel_leap(c: Channel, n: u32) -> Channel
 
 // A voice whose kind doesn't change is kept, and not built anew (docs/PERFORMANCE.md).
 
+#[tactic(auto, unfolding(crate::specs::ChannelEnum::kind_far, crate::specs::ChannelEnum::kind_leap, crate::specs::ChannelEnum::swept_leap))]
 fn swept_leap(v: Voice, n: u32) -> Voice
     requires { n ≤ kind_far v.kind }
     ensures { result ≡ swept_leap n v }
 {
     match v.kind {
-        Kind::Wave { .. } => v,
         Kind::Swept {
             bank,
             position,
@@ -64,7 +65,7 @@ fn swept_leap(v: Voice, n: u32) -> Voice
             },
             ..v
         },
-        Kind::Noise { .. } => v,
+        Kind::Wave { .. } | Kind::Noise { .. } => v,
     }
 }
 
@@ -72,10 +73,9 @@ fn tone_leap(v: Voice, n: u32) -> Voice
     requires { Playable n v }
     ensures { result ≡ tone_leap n v }
 {
-    let mut c = v.channel;
     let k = v.kind;
-    let p = c.pitch;
-    c = channel_leap(c, n);
+    let p = v.channel.pitch;
+    let mut c = channel_leap(v.channel, n);
     let s = pitch::leap(
         p,
         channel_enum::frequency(k, p.frequency),
@@ -90,17 +90,14 @@ fn tone_leap(v: Voice, n: u32) -> Voice
             kind: sample::on(k, s.samples),
         };
     }
-    let mut w = v;
-    w.channel = c;
-    w
+    Voice { channel: c, ..v }
 }
 
 fn all_leap(v: Voice, n: u32) -> Voice
     requires { Leapable n v }
     ensures { result ≡ voice_leap n v }
 {
-    let w = swept_leap(v, n);
-    tone_leap(w, n)
+    tone_leap(swept_leap(v, n), n)
 }
 
 fn is_pitchable(p: Pitch, frequency: u16, period: u32) -> bool
@@ -113,15 +110,15 @@ fn is_pitchable(p: Pitch, frequency: u16, period: u32) -> bool
 fn is_leapable(v: Voice, n: u32) -> bool
     ensures { result ≡ leapable n v }
 {
-    let c = v.channel;
-    let p = c.pitch;
-    let k = v.kind;
-    let f = channel_enum::frequency(k, p.frequency);
-    let period = channel_enum::cycles_per_frequency_tick(k);
+    let p = v.channel.pitch;
     (n <= far(v))
         & (n <= FURTHEST)
-        & (c.envelope.tick < ENVELOPE_CYCLE_COUNT)
-        & is_pitchable(p, f, period)
+        & (v.channel.envelope.tick < ENVELOPE_CYCLE_COUNT)
+        & is_pitchable(
+            p,
+            channel_enum::frequency(v.kind, p.frequency),
+            channel_enum::cycles_per_frequency_tick(v.kind),
+        )
 }
 
 // n cycles on; the voice as it is, where it can't go them at once.

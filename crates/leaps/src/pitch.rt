@@ -58,14 +58,9 @@ pub(crate) fn leap(p: Pitch, frequency: u16, period: u32, n: u32) -> Sampled
     }
     let q = restarted(p);
     let every = far(q, frequency, period) + 1;
-    let mut left = n - first - 1;
-    let mut samples = 1;
-    while left >= every {
-        left -= every;
-        samples += 1;
-    }
+    let left = n - first - 1;
     Sampled {
-        pitch: counted(q, frequency, period, left),
-        samples,
+        pitch: counted(q, frequency, period, left % every),
+        samples: 1 + left / every,
     }
 }

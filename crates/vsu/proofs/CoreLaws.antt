@@ -1,5 +1,5 @@
 -- The cases of the definitions of specs/Core.antt, over plain variables.
-use Rattle.std.specs.Prelude.{◌≡◌, ℕ, ◌+◌, ◌-◌, ◌*◌, ◌/◌, ◌%◌, ◌<◌, ◌≤◌, Bool, true, false, cond, ◌&&◌, ltb, leb, List, [], ◌∷◌, ◌++◌, map, length, get_or, drop, set, ℤ, pos}
+use Rattle.std.specs.Prelude.{◌≡◌, ℕ, ◌+◌, ◌-◌, ◌*◌, ◌/◌, ◌%◌, ◌<◌, ◌≤◌, Bool, true, false, cond, ◌&&◌, ltb, leb, List, [], ◌∷◌, ◌++◌, map, length, get_or, drop, set, ℤ, pos, Result, Ok, Err}
 use mathlib.Core.Path.{refl, sym, ap, ◌∙◌}
 use mathlib.Core.Bool.{and_assoc, and-true}
 use native.Mathlib.Numerals.{add-one}
@@ -21,18 +21,14 @@ use Rattle.voice.proofs.ChannelEnumLaws.{no-offset}
 use Rattle.voice.specs.ChannelEnum.{has_offset, stop_voice, voice_write}
 use Rattle.voice.specs.declared.channel_enum.Voice.{Voice}
 use Rattle.six.specs.Core.{plays, any_plays, voice_at, voices_in_range}
-use Rattle.vsu.specs.Core.{decode_of, between, write, write_to, sort_of, says, said_answer, written_by, with_waves, with_modulation, with_voices, frame_side, all_at_most, all_bytes, shaped, in_range, run, frames, frames_due, sides, unit_answer, moved_by, write_of, advance_of, run_answer, RunGives, ran_by, run_of}
-use Rattle.refusal.specs.declared.Answer.TheVariants.{Accepted, Refused}
+use Rattle.vsu.specs.Core.{decode_of, between, write, write_to, sort_of, says, said_answer, written_by, with_waves, with_modulation, with_voices, frame_side, all_at_most, all_bytes, shaped, in_range, run, frames, frames_due, sides, unit_answer, moved_by, write_of, advance_of, run_answer, Moved, Ran, Written, ran_as, RunGives, ran_by, run_of}
 use Rattle.refusal.specs.declared.Refusal.{Refusal}
 use Rattle.refusal.specs.declared.Refusal.TheVariants.{State, Room}
-use Rattle.vsu.specs.declared.unit.Moved.{Moved}
-use Rattle.vsu.specs.declared.unit.Ran.{Ran}
 use Rattle.vsu.specs.declared.unit.Register.{Register}
 use Rattle.vsu.specs.declared.unit.Register.TheVariants as registers
 use Rattle.vsu.specs.declared.unit.Said.{Said}
 use Rattle.vsu.specs.declared.unit.Said.TheVariants as said
 use Rattle.vsu.specs.declared.unit.Vsu.{Vsu}
-use Rattle.vsu.specs.declared.unit.Written.{Written}
 
 -- an array's length, where it is told of the elements' machine values
 pub length-told : (X Y : Type 0) (f : X → Y) (l : List X) (n : ℕ) → length (map f l) ≡ n → length l ≡ n
@@ -185,19 +181,9 @@ pub sorted : (a : ℕ) (vs : List Voice) {r q : Register} {s : Said} → r ≡ d
 sorted a vs e k f = f ∙ ap (λ (r : Register). sort_of r vs) (sym k ∙ e)
 
 -- each of the three accepts the write
-abbrev Accepts : Said → Type 0
-Accepts s = said_answer s ≡ Accepted
-
-sort-answer : (r : Register) (vs : List Voice) → said_answer (sort_of r vs) ≡ Accepted
-unfolding sort_of said_answer
-sort-answer (registers.Wave at) vs = ways Accepts (any_plays vs) (λ _. refl) (λ _. refl)
-sort-answer (registers.Modulation at) vs = ways Accepts (plays (voice_at 4 vs)) (λ _. refl) (λ _. refl)
-sort-answer (registers.Channel k o) vs = ways Accepts (ltb k (length vs) && has_offset o (voice_at k vs).kind) (λ _. refl) (λ _. refl)
-sort-answer registers.Stop vs = refl
-sort-answer registers.Nothing vs = refl
-
-pub says-accepted : (a : ℕ) (u : Vsu) → said_answer (says a u) ≡ Accepted
-says-accepted a u = sort-answer (decode_of a) u.voices
+pub says-accepted : (a : ℕ) (u : Vsu) → said_answer (Ok (says a u)) ≡ Ok tt
+unfolding said_answer
+says-accepted a u = refl
 
 -- A write that is held, or has no register, leaves the state as it is.
 pub unheard : (a b : ℕ) (u : Vsu) → (says a u ≡ said.Taken → ⊥) → write a b u ≡ u
@@ -232,43 +218,43 @@ frame-side {sum} h = rw (lt-ltb (sum / 8 * 32) 32768 (omega arith)) (ap pos (ome
 -- the answers: `p` is what the range test said
 
 module _ (u : Vsu) {p : Bool} (e : p ≡ in_range u) where
-  pub unit-accepted : p ≡ true → unit_answer u ≡ Accepted
+  pub unit-accepted : p ≡ true → unit_answer u ≡ Ok tt
   unfolding unit_answer
   unit-accepted h = order.sound State (rw (← e, h))
 
-  pub unit-refused : p ≡ false → unit_answer u ≡ Refused State
+  pub unit-refused : p ≡ false → unit_answer u ≡ Err State
   unfolding unit_answer
   unit-refused h = order.at-fault State (rw (← e, h))
 
 module _ (u : Vsu) (a b : ℕ) where
-  pub written_on : unit_answer u ≡ Accepted → {t : Vsu} {s : Said} → s ≡ says a u → t ≡ write a b u → (record { state = t; said = s } ≡ write_of a b u) × Tells (said_answer s) (unit_answer u)
-  unfolding written_by
-  written_on h k q = (rw (q, k, h), order.tells (ap said_answer k ∙ says-accepted a u ∙ sym h))
+  pub written_on : unit_answer u ≡ Ok tt → {t : Vsu} {s : Said} → s ≡ says a u → t ≡ write a b u → (record { state = t; said = Ok s } ≡ write_of a b u) × Tells (said_answer (Ok s)) (unit_answer u)
+  unfolding written_by said_answer
+  written_on h k q = (rw (q, k, h), order.tells (sym h))
 
-  pub written-refused : {why : Refusal} → unit_answer u ≡ Refused why → (record { state = u; said = said.Refused why } ≡ write_of a b u) × Tells (said_answer (said.Refused why)) (unit_answer u)
+  pub written-refused : {why : Refusal} → unit_answer u ≡ Err why → (record { state = u; said = Err why } ≡ write_of a b u) × Tells (said_answer (Err why)) (unit_answer u)
   unfolding written_by said_answer
   written-refused h = (rw h, order.tells (sym h))
 
 module _ (u : Vsu) where
-  pub moved_on_lem : unit_answer u ≡ Accepted → {s t : Vsu} → s ≡ t → (record { state = s; answer = Accepted } ≡ moved_by (unit_answer u) u t) × Tells Accepted (unit_answer u)
+  pub moved_on_lem : unit_answer u ≡ Ok tt → {s t : Vsu} → s ≡ t → (record { state = s; answer = Ok tt } ≡ moved_by (unit_answer u) u t) × Tells (Ok tt) (unit_answer u)
   unfolding moved_by
   moved_on_lem a q = (rw (q, a), order.tells (sym a))
 
-  pub moved-refused : {why : Refusal} → unit_answer u ≡ Refused why → (t : Vsu) → (record { state = u; answer = Refused why } ≡ moved_by (unit_answer u) u t) × Tells (Refused why) (unit_answer u)
+  pub moved-refused : {why : Refusal} → unit_answer u ≡ Err why → (t : Vsu) → (record { state = u; answer = Err why } ≡ moved_by (unit_answer u) u t) × Tells (Err why) (unit_answer u)
   unfolding moved_by
   moved-refused a t = (rw a, order.tells (sym a))
 
   module _ (n room : ℕ) where
-    pub run-refused : {why : Refusal} → unit_answer u ≡ Refused why → run_answer n u room ≡ Refused why
+    pub run-refused : {why : Refusal} → unit_answer u ≡ Err why → run_answer n u room ≡ Err why
     unfolding run_answer
     run-refused a = order.ends _ a
 
-    module _ (a : unit_answer u ≡ Accepted) where
-      pub run-crowded : room / 2 < frames_due u n → run_answer n u room ≡ Refused Room
+    module _ (a : unit_answer u ≡ Ok tt) where
+      pub run-crowded : room / 2 < frames_due u n → run_answer n u room ≡ Err Room
       unfolding run_answer
       run-crowded h = order.on _ a ∙ order.at-fault Room (rw (lt-leb (frames_due u n) (room / 2) h))
 
-      pub run-accepted : frames_due u n ≤ room / 2 → run_answer n u room ≡ Accepted
+      pub run-accepted : frames_due u n ≤ room / 2 → run_answer n u room ≡ Ok tt
       unfolding run_answer
       run-accepted h = order.on _ a ∙ order.sound Room (rw (le-leb (frames_due u n) (room / 2) h))
 
@@ -277,28 +263,34 @@ module _ (u : Vsu) where
     abbrev pub Promised : Ran → List ℤ → Type 0
     Promised r after = (r ≡ (run_of n u out).ran) × (after ≡ (run_of n u out).out) × Tells r.answer (run_answer n u (length out))
 
-    pub ran-refused : {why : Refusal} → run_answer n u (length out) ≡ Refused why → Promised (record { state = u; frames = 0; answer = Refused why }) out
+    pub ran-refused : {why : Refusal} → run_answer n u (length out) ≡ Err why → Promised (record { state = u; frames = 0; answer = Err why }) out
     unfolding ran_by
     ran-refused a = (rw a, rw a, order.tells (sym a))
 
-    pub ran_on : run_answer n u (length out) ≡ Accepted → {s : Vsu} {due : ℕ} {after : List ℤ} → s ≡ run n u → due ≡ frames_due u n → after ≡ sides (frames n u) ++ drop (frames_due u n * 2) out → Promised (record { state = s; frames = due; answer = Accepted }) after
+    pub ran_on : run_answer n u (length out) ≡ Ok tt → {s : Vsu} {due : ℕ} {after : List ℤ} → s ≡ run n u → due ≡ frames_due u n → after ≡ sides (frames n u) ++ drop (frames_due u n * 2) out → Promised (record { state = s; frames = due; answer = Ok tt }) after
     unfolding ran_by
     ran_on a q d r = (rw (q, d, a), rw (r, a), order.tells (sym a))
+
+-- a run's record has the state that is left, however the run ended
+pub ran-state : (r : Result ℕ Refusal) (u : Vsu) → (ran_as r u).state ≡ u
+unfolding ran_as
+ran-state (Ok frames) u = refl
+ran-state (Err why) u = refl
 
 -- what a call gives from a state in range, for the layers above
 
 module _ (u : Vsu) (h : in_range u ≡ true) where
-  pub in-range-accepted : unit_answer u ≡ Accepted
+  pub in-range-accepted : unit_answer u ≡ Ok tt
   in-range-accepted = unit-accepted u refl h
 
-  pub write-gives : (a b : ℕ) → ◌≡◌ {A = Written} (write_of a b u) (record { state = write a b u; said = says a u })
+  pub write-gives : (a b : ℕ) → ◌≡◌ {A = Written} (write_of a b u) (record { state = write a b u; said = Ok (says a u) })
   unfolding written_by
   write-gives a b = rw in-range-accepted
 
-  pub advance-gives : (n : ℕ) → ◌≡◌ {A = Moved} (advance_of n u) (record { state = run n u; answer = Accepted })
+  pub advance-gives : (n : ℕ) → ◌≡◌ {A = Moved} (advance_of n u) (record { state = run n u; answer = Ok tt })
   unfolding moved_by
   advance-gives n = rw in-range-accepted
 
-  pub run-gives : (n : ℕ) (out : List ℤ) → frames_due u n ≤ length out / 2 → ◌≡◌ {A = RunGives} (run_of n u out) (record { ran = record { state = run n u; frames = frames_due u n; answer = Accepted }; out = sides (frames n u) ++ drop (frames_due u n * 2) out })
+  pub run-gives : (n : ℕ) (out : List ℤ) → frames_due u n ≤ length out / 2 → ◌≡◌ {A = RunGives} (run_of n u out) (record { ran = record { state = run n u; frames = frames_due u n; answer = Ok tt }; out = sides (frames n u) ++ drop (frames_due u n * 2) out })
   unfolding ran_by
   run-gives n out g = rw (run-accepted u n (length out) in-range-accepted g)

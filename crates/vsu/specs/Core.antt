@@ -1,9 +1,8 @@
 -- The sound unit, in document 01's order and words: register writes, one cycle, the frame, runs, range rules, refusals.
-use Rattle.std.specs.Prelude.{ℕ, zero, suc, ◌+◌, ◌-◌, ◌*◌, ◌/◌, ◌%◌, ◌≤◌, Bool, true, cond, not, ◌&&◌, List, [], ◌∷◌, ◌++◌, map, length, drop, replicate, ℤ, pos, ◌==◌, nat_le, nat_lt, slice_set}
+use Rattle.std.specs.Prelude.{ℕ, zero, suc, ◌+◌, ◌-◌, ◌*◌, ◌/◌, ◌%◌, ◌≤◌, Bool, true, cond, not, ◌&&◌, List, [], ◌∷◌, ◌++◌, map, length, drop, replicate, ℤ, pos, ◌==◌, nat_le, nat_lt, slice_set, Result, Ok, Err}
 use Rattle.std.specs.Int.Signed.{mag}
-use Rattle.refusal.specs.Refusal.{fault, ◌then◌}
-use Rattle.refusal.specs.declared.Answer.{Answer}
-use Rattle.refusal.specs.declared.Answer.TheVariants.{Accepted, Refused}
+use Rattle.refusal.specs.Refusal.{fault, ◌then◌, Answer}
+use Rattle.refusal.specs.declared.Refusal.{Refusal}
 use Rattle.refusal.specs.declared.Refusal.TheVariants.{State, Room}
 use Rattle.common.specs.Bits.{bit, signed}
 use Rattle.voice.specs.ChannelEnum.{voice_write, has_offset, stop_voice}
@@ -14,14 +13,11 @@ use Rattle.voice.specs.declared.channel_enum.Voice.{Voice}
 use Rattle.six.specs.declared.unit.Sums.{Sums}
 use Rattle.vsu.specs.Constants.{frame_tick}
 use Rattle.vsu.specs.declared.unit.Frame.{Frame}
-use Rattle.vsu.specs.declared.unit.Moved.{Moved}
-use Rattle.vsu.specs.declared.unit.Ran.{Ran}
 use Rattle.vsu.specs.declared.unit.Register.{Register}
 use Rattle.vsu.specs.declared.unit.Register.TheVariants as registers
 use Rattle.vsu.specs.declared.unit.Said.{Said}
 use Rattle.vsu.specs.declared.unit.Said.TheVariants as said
 use Rattle.vsu.specs.declared.unit.Vsu.{Vsu}
-use Rattle.vsu.specs.declared.unit.Written.{Written}
 
 -- A state with one part changed.
 
@@ -163,25 +159,43 @@ fits_in n u room = nat_le (frames_due u n) (room / 2)
 unfoldable pub run_answer : ℕ → Vsu → ℕ → Answer
 run_answer n u room = unit_answer u then fault (not (fits_in n u room)) Room
 
+-- what the calls hand back: the state, and how the call ended, what a write said, how many frames a run made
+
+pub record Moved : Type 0 where
+  pub state : Vsu
+  pub answer : Answer
+
+pub record Written : Type 0 where
+  pub state : Vsu
+  pub said : Result Said Refusal
+
+pub record Ran : Type 0 where
+  pub state : Vsu
+  pub frames : ℕ
+  pub answer : Answer
+
+-- the same of a run that ends in the number of its frames or why it was refused, and leaves a state
+unfoldable pub ran_as : Result ℕ Refusal → Vsu → Ran
+ran_as (Ok frames) u = record { state = u; frames = frames; answer = Ok tt }
+ran_as (Err why) u = record { state = u; frames = 0; answer = Err why }
+
 -- "A refused call hands back the given record or state, counts 0, and writes nothing": t is the state that the call comes to
 unfoldable pub moved_by : Answer → Vsu → Vsu → Moved
-moved_by Accepted u t = record { state = t; answer = Accepted }
-moved_by (Refused why) u t = record { state = u; answer = Refused why }
+moved_by (Ok done) u t = record { state = t; answer = Ok tt }
+moved_by (Err why) u t = record { state = u; answer = Err why }
 
 -- a write hands back what it says in place of the answer: s, or why it is refused
 unfoldable pub written_by : Answer → Said → Vsu → Vsu → Written
-written_by Accepted s u t = record { state = t; said = s }
-written_by (Refused why) s u t = record { state = u; said = said.Refused why }
+written_by (Ok done) s u t = record { state = t; said = Ok s }
+written_by (Err why) s u t = record { state = u; said = Err why }
 
 abbrev pub write_of : ℕ → ℕ → Vsu → Written
 write_of a b u = written_by (unit_answer u) (says a u) u (write a b u)
 
 -- the answer that this is: each of the three sorts is an acceptance
-unfoldable pub said_answer : Said → Answer
-said_answer said.Taken = Accepted
-said_answer said.Held = Accepted
-said_answer said.NoRegister = Accepted
-said_answer (said.Refused why) = Refused why
+unfoldable pub said_answer : Result Said Refusal → Answer
+said_answer (Ok s) = Ok tt
+said_answer (Err why) = Err why
 
 abbrev pub advance_of : ℕ → Vsu → Moved
 advance_of n u = moved_by (unit_answer u) u (run n u)
@@ -193,12 +207,12 @@ pub record RunGives : Type 0 where
 
 -- "Frames fill the buffer's front, left first; the rest keeps its bytes."
 unfoldable pub ran_by : Answer → ℕ → Vsu → List ℤ → RunGives
-ran_by Accepted n u out =
+ran_by (Ok done) n u out =
     record {
-      ran = record { state = run n u; frames = frames_due u n; answer = Accepted };
+      ran = record { state = run n u; frames = frames_due u n; answer = Ok tt };
       out = sides (frames n u) ++ drop (frames_due u n * 2) out;
     }
-ran_by (Refused why) n u out = record { ran = record { state = u; frames = 0; answer = Refused why }; out = out }
+ran_by (Err why) n u out = record { ran = record { state = u; frames = 0; answer = Err why }; out = out }
 
 abbrev pub run_of : ℕ → Vsu → List ℤ → RunGives
 run_of n u out = ran_by (run_answer n u (length out)) n u out

@@ -2,11 +2,11 @@
 ghost use Rattle.std.specs.Prelude.{◌≡◌, ◌+◌, ◌*◌, ◌%◌, ◌≤◌, true, ◌++◌, length, drop, if◌then◌else◌};
 ghost use Rattle.refusal.specs.Refusal.{Tells};
 ghost use Rattle.six.specs.Core.{silenced, sums_of, voices_after_all, voices_in_range};
-ghost use Rattle.vsu.specs.Core.{power_on, decode_of, write_to, write, says, said_answer, frame_of, run, frames, frames_due, sides, all_at_most, in_range, unit_answer, write_of, advance_of, run_answer, run_of, SmallSums};
+ghost use Rattle.vsu.specs.Core.{power_on, decode_of, write_to, write, says, said_answer, frame_of, run, frames, frames_due, sides, all_at_most, in_range, unit_answer, write_of, advance_of, run_answer, run_of, ran_as, SmallSums};
 
 use crate::constants::SOUND_SAMPLE_RATE_CYCLE_COUNT;
 use common::bits;
-use refusal::{Answer, Refusal};
+use refusal::Refusal;
 use voice::channel_enum;
 use voice::channel_enum::Voice;
 
@@ -36,44 +36,20 @@ pub enum Register {
     Nothing,
 }
 
-// What a register write says: taken, held off by playing, no such register; or why it was refused.
-#[derive(Clone, Copy)]
+// What a register write says: taken, held off by playing, no such register.
+#[derive(Clone, Copy, Debug, PartialEq, Eq)]
 pub enum Said {
     Taken,
     Held,
     NoRegister,
-    Refused(Refusal),
-}
-
-// The state after a write, and what it says.
-#[derive(Clone, Copy)]
-pub struct Written {
-    pub state: Vsu,
-    pub said: Said,
-}
-
-// The state after a run without frames, and how it ended.
-#[derive(Clone, Copy)]
-pub struct Moved {
-    pub state: Vsu,
-    pub answer: Answer,
-}
-
-// The state after a run, how many frames it made, and how it ended.
-#[derive(Clone, Copy)]
-pub struct Ran {
-    pub state: Vsu,
-    pub frames: u32,
-    pub answer: Answer,
 }
 
 // Power-on.
 pub fn new() -> Vsu
     ensures { result ≡ power_on }
 {
-    let voices = six::unit::new();
     Vsu {
-        voices: voices,
+        voices: six::unit::new(),
         output: 0,
         waves: [0; 160],
         modulation: [0; 32],
@@ -100,8 +76,7 @@ pub fn decode(address: u32) -> Register
 fn write_wave(u: Vsu, at: usize, value: u8) -> Vsu
     ensures { result ≡ write_to (Register.Wave at) value u }
 {
-    let voices = u.voices;
-    if six::unit::playback_occuring(voices) {
+    if six::unit::playback_occuring(u.voices) {
         return u;
     }
     let mut t = u;
@@ -114,9 +89,8 @@ fn write_wave(u: Vsu, at: usize, value: u8) -> Vsu
 fn write_modulation(u: Vsu, at: usize, value: u8) -> Vsu
     ensures { result ≡ write_to (Register.Modulation at) value u }
 {
-    let voices = u.voices;
-    let v = voices[4];
-    if v.channel.live.playing {
+    let fifth = u.voices[4];
+    if fifth.channel.live.playing {
         return u;
     }
     let mut t = u;
@@ -129,6 +103,7 @@ fn write_modulation(u: Vsu, at: usize, value: u8) -> Vsu
 fn write_channel(u: Vsu, index: usize, offset: u32, value: u8) -> Vsu
     ensures { result ≡ write_to (Register.Channel index offset) value u }
 {
+    // In place, `t.voices[index] = ..`, a write takes eleven instructions more.
     let mut voices = u.voices;
     let mut t = u;
     if index < 6 {
@@ -142,6 +117,7 @@ fn write_channel(u: Vsu, index: usize, offset: u32, value: u8) -> Vsu
 fn write_stop(u: Vsu, value: u8) -> Vsu
     ensures { result ≡ write_to Register.Stop value u }
 {
+    // Not `Vsu { voices, ..u }`: every write then takes fifty instructions more.
     let mut t = u;
     if bits::flag(value, 0) {
         let voices = u.voices;
@@ -154,8 +130,7 @@ fn write_stop(u: Vsu, value: u8) -> Vsu
 fn set_u8(u: Vsu, address: u32, value: u8) -> Vsu
     ensures { result ≡ write address value u }
 {
-    let r = decode(address);
-    match r {
+    match decode(address) {
         Register::Wave(at) => write_wave(u, at, value),
         Register::Modulation(at) => write_modulation(u, at, value),
         Register::Channel { index, offset } => write_channel(u, index, offset, value),
@@ -181,19 +156,14 @@ fn taken_where(has: bool) -> Said
 pub fn says(u: Vsu, address: u32) -> Said
     ensures { result ≡ says address u }
 {
+    // once, and not in each arm, where a write to a channel costs more (docs/PERFORMANCE.md)
     let voices = u.voices;
-    let r = decode(address);
-    match r {
+    match decode(address) {
         Register::Wave(_) => held_while(six::unit::playback_occuring(voices)),
-        Register::Modulation(_) => {
-            let fifth = voices[4];
-            held_while(fifth.channel.live.playing)
-        }
-        Register::Channel { index: at, offset } => {
-            if at < 6 {
-                let v = voices[at];
-                let k = v.kind;
-                return taken_where(channel_enum::has_offset(k, offset));
+        Register::Modulation(_) => held_while(voices[4].channel.live.playing),
+        Register::Channel { index, offset } => {
+            if index < 6 {
+                return taken_where(channel_enum::has_offset(voices[index].kind, offset));
             }
             Said::NoRegister
         }
@@ -219,12 +189,10 @@ fn sample(voices: [Voice; 6], waves: &[u8; 160], mutes: u8) -> Frame
 fn samples_in_range(waves: &[u8; 160]) -> bool
     ensures { result ≡ all_at_most 63 waves.now }
 {
-    let samples: &[u8] = waves;
+    // Not `all`: a loop that can end early goes by one byte at a time, one that can't by many (docs/PERFORMANCE.md).
     let mut small = true;
-    let mut i = 0;
-    while i < samples.len() {
-        small = small & (samples[i] <= 63);
-        i += 1;
+    for sample in waves {
+        small &= *sample <= 63;
     }
     small
 }
@@ -233,45 +201,26 @@ fn samples_in_range(waves: &[u8; 160]) -> bool
 pub fn in_range(u: Vsu) -> bool
     ensures { result ≡ in_range u }
 {
-    let voices = u.voices;
-    let waves = u.waves;
-    six::unit::in_range(voices) & (u.output <= 479) & samples_in_range(&waves) & (u.mutes <= 63)
+    six::unit::in_range(u.voices) & (u.output <= 479) & samples_in_range(&u.waves) & (u.mutes <= 63)
 }
 
-// The answer that a write's is: each of the three sorts is an acceptance.
-pub fn answer_in(said: Said) -> Answer
-    ensures { result ≡ said_answer said }
+// A register write: what it says of it, or the refusal.
+pub fn write(u: &mut Vsu, address: u32, value: u8) -> Result<Said, Refusal>
+    ensures { (record { state = u.new; said = result } ≡ write_of address value u.old) × Tells (said_answer result) (unit_answer u.old) }
 {
-    match said {
-        Said::Taken => Answer::Accepted,
-        Said::Held => Answer::Accepted,
-        Said::NoRegister => Answer::Accepted,
-        Said::Refused(why) => Answer::Refused(why),
+    if !in_range(*u) {
+        return Err(Refusal::State);
     }
-}
-
-// A register write.
-pub fn write(u: Vsu, address: u32, value: u8) -> Written
-    ensures { (result ≡ write_of address value u) × Tells (said_answer result.said) (unit_answer u) }
-{
-    if in_range(u) {
-        let said = says(u, address);
-        return Written {
-            state: set_u8(u, address, value),
-            said: said,
-        };
-    }
-    Written {
-        state: u,
-        said: Said::Refused(Refusal::State),
-    }
+    let said = says(*u, address);
+    *u = set_u8(*u, address, value);
+    Ok(said)
 }
 
 // How many frames n cycles make.
 pub fn frames_due(u: Vsu, n: u32) -> u64
     ensures { result ≡ frames_due u n }
 {
-    ((u.output as u64) + (n as u64)) / (SOUND_SAMPLE_RATE_CYCLE_COUNT as u64)
+    (u64::from(u.output) + u64::from(n)) / u64::from(SOUND_SAMPLE_RATE_CYCLE_COUNT)
 }
 
 // A way to make cycles of the six voices, for callers that have checked the range.
@@ -340,61 +289,45 @@ fn skip<E: Engine>(u: Vsu, n: u32) -> Vsu
 }
 
 // n cycles without frames, by an engine.
-pub fn advance_by<E: Engine>(u: Vsu, n: u32) -> Moved
-    ensures { (result ≡ advance_of n u) × Tells result.answer (unit_answer u) }
+pub fn advance_by<E: Engine>(u: &mut Vsu, n: u32) -> Result<(), Refusal>
+    ensures { (record { state = u.new; answer = result } ≡ advance_of n u.old) × Tells result (unit_answer u.old) }
 {
-    if in_range(u) {
-        return Moved {
-            state: skip::<E>(u, n),
-            answer: Answer::Accepted,
-        };
+    if !in_range(*u) {
+        return Err(Refusal::State);
     }
-    Moved {
-        state: u,
-        answer: Answer::Refused(Refusal::State),
-    }
+    *u = skip::<E>(*u, n);
+    Ok(())
 }
 
-// n cycles, whose frames fill the front of `out`, by an engine.
-pub fn run_by<E: Engine>(u: Vsu, n: u32, out: &mut [i16]) -> Ran
-    ensures { (result ≡ (run_of n u out.old).ran)
-        × (out.new ≡ (run_of n u out.old).out)
-        × Tells result.answer (run_answer n u (length out.old)) }
+// n cycles, whose frames fill the front of `out`, by an engine: how many they are.
+pub fn run_by<E: Engine>(u: &mut Vsu, n: u32, out: &mut [i16]) -> Result<u32, Refusal>
+    ensures { (ran_as result u.new ≡ (run_of n u.old out.old).ran)
+        × (out.new ≡ (run_of n u.old out.old).out)
+        × Tells (ran_as result u.new).answer (run_answer n u.old (length out.old)) }
 {
-    if !in_range(u) {
-        return Ran {
-            state: u,
-            frames: 0,
-            answer: Answer::Refused(Refusal::State),
-        };
+    if !in_range(*u) {
+        return Err(Refusal::State);
     }
-    let due = frames_due(u, n);
+    let due = frames_due(*u, n);
     if due > (out.len() / 2) as u64 {
-        return Ran {
-            state: u,
-            frames: 0,
-            answer: Answer::Refused(Refusal::Room),
-        };
+        return Err(Refusal::Room);
     }
-    Ran {
-        state: step::<E>(u, n, out),
-        frames: due as u32,
-        answer: Answer::Accepted,
-    }
+    *u = step::<E>(*u, n, out);
+    Ok(due as u32)
 }
 
 // n cycles without frames.
-pub fn advance(u: Vsu, n: u32) -> Moved
-    ensures { (result ≡ advance_of n u) × Tells result.answer (unit_answer u) }
+pub fn advance(u: &mut Vsu, n: u32) -> Result<(), Refusal>
+    ensures { (record { state = u.new; answer = result } ≡ advance_of n u.old) × Tells result (unit_answer u.old) }
 {
     advance_by::<ByCycle>(u, n)
 }
 
-// n cycles, whose frames fill the front of `out`.
-pub fn run(u: Vsu, n: u32, out: &mut [i16]) -> Ran
-    ensures { (result ≡ (run_of n u out.old).ran)
-        × (out.new ≡ (run_of n u out.old).out)
-        × Tells result.answer (run_answer n u (length out.old)) }
+// n cycles, whose frames fill the front of `out`: how many they are.
+pub fn run(u: &mut Vsu, n: u32, out: &mut [i16]) -> Result<u32, Refusal>
+    ensures { (ran_as result u.new ≡ (run_of n u.old out.old).ran)
+        × (out.new ≡ (run_of n u.old out.old).out)
+        × Tells (ran_as result u.new).answer (run_answer n u.old (length out.old)) }
 {
     run_by::<ByCycle>(u, n, out)
 }

@@ -3,4 +3,4 @@ use Rattle.vsu.proofs.unit.new.Goals as goal
 
 pub returns : goal.returns
 unfolding power_on
-returns c = rw c.new-voices.ensures
+returns c = rw c.new.ensures

@@ -1,13 +1,15 @@
-use mathlib.Core.Path.{refl}
 use borrow.Author.Rules.{rules}
+use native.Mathlib.Omega.{arith}
+use Rattle.std.specs.Prelude.{◌≡◌, length}
 use Rattle.vsu.proofs.CoreLaws as laws
 use Rattle.vsu.proofs.unit.samples_in_range.Goals as goal
 
-pub loop-i-init : goal.loop-i-init
-loop-i-init c = (search rules, refl, refl)
-
-pub loop-i-preserved : goal.loop-i-preserved
-loop-i-preserved c = (search rules, refl, laws.one_more _ _ _ c.loop-i-test.true c.loop-i.small c.loop-i.invariant.2)
+pub loop-sample-preserved : goal.loop-sample-preserved
+loop-sample-preserved c =
+    let long : length c.args.waves.now ≡ 160 = search rules in
+    laws.one_more _ _ _ (omega (arith, long)) c.loop-sample.small c.loop-sample.invariant
 
 pub returns : goal.returns
-returns c = laws.all_small _ _ _ c.loop-i-test.false c.loop-i.small c.loop-i.invariant.2
+returns c =
+    let long : length c.args.waves.now ≡ 160 = search rules in
+    laws.all_small _ _ _ (omega (arith, long)) c.loop-sample.small c.loop-sample.invariant
