@@ -1,7 +1,7 @@
 -- Demand 3: after any play, seek, set, clear, go-to-mark and mute calls from a fresh opening, refused ones among them, the player
 -- stands at the cycle the calls name, in the state that one unbroken run from power-on, cycle by cycle, has there, all but the mute
 -- bits. Each accepted play yields exactly that run's frames in its span, with the present mutes.
-use Rattle.std.specs.Prelude.{◌≡◌, ℕ, ◌+◌, ◌-◌, ◌*◌, ◌/◌, ◌<◌, ◌≤◌, Bool, true, false, cond, not, ◌||◌, eqb, ltb, leb, List, [], ◌∷◌, ◌++◌, length, take, drop, ℤ}
+use Rattle.std.specs.Prelude.{◌≡◌, ℕ, ◌+◌, ◌-◌, ◌*◌, ◌/◌, ◌<◌, ◌≤◌, Bool, true, false, cond, not, ◌||◌, eqb, ltb, leb, List, [], ◌∷◌, ◌++◌, length, take, drop, ℤ, Ok, Err}
 use Prim.Native.Nat.{suc-le-suc}
 use mathlib.Core.Path.{refl, sym, ap, ap₂, subst, ◌∙◌}
 use mathlib.Core.Bool.{true≢false}
@@ -14,8 +14,7 @@ use lib.Seq.{drop_at, drop-drop, get_or-drop, length-sets, sets, take_at}
 use Rattle.laws.proofs.Cases.{each, ways}
 use Rattle.little.specs.Little.{bytes}
 use Rattle.little.proofs.LittleLaws.{bytes-length, front_below, front_bytes, sets-after, sets-before, sets-there}
-use Rattle.register_log.specs.Log.{check_of, count_of, due_before, edition1, log_answer}
-use Rattle.register_log.specs.declared.Checked.TheVariants as checked
+use Rattle.register_log.specs.Log.{check_of, count_of, due_before, edition1, log_answer, log_with}
 use Rattle.register_log.specs.declared.Write.{Write}
 use Rattle.register_log.proofs.AcceptedLaws.{accepted, writes-length}
 use Rattle.image.specs.Image.{image_of, read_answer}
@@ -23,9 +22,7 @@ use Rattle.table.specs.Table.{newest}
 use Rattle.image.proofs.RoundTrip.{image-420, reads-back}
 use Rattle.marks.specs.Marks.{is_set, lowest_free, with_mark, without_mark}
 use Rattle.marks.proofs.MarksLaws.{lowest-unset, set-with, set-without, unset-at-first, with-past, without-past}
-use Rattle.refusal.specs.Refusal.{fault, ◌then◌}
-use Rattle.refusal.specs.declared.Answer.{Answer}
-use Rattle.refusal.specs.declared.Answer.TheVariants.{Accepted, Refused}
+use Rattle.refusal.specs.Refusal.{fault, ◌then◌, Answer}
 use Rattle.refusal.specs.declared.Refusal.{Refusal}
 use Rattle.refusal.specs.declared.Refusal.TheVariants.{Room, Place, MarkNumber, MarkUnset, MarksFull}
 use Rattle.refusal.proofs.RefusalLaws.{passed, was-sound}
@@ -55,14 +52,14 @@ other-slot l j k vs e d = go (leb j k) refl
 
 -- An accepted log.
 
-module _ (b : List ℕ) (small : all_at_most 255 b ≡ true) (log : log_answer edition1 b ≡ Accepted) where
+module _ (b : List ℕ) (small : all_at_most 255 b ≡ true) (log : log_answer edition1 b ≡ Ok tt) where
   abbrev ws : List Write
   ws = writes_in b
 
   abbrev cycles : ℕ
   cycles = length_in b
 
-  checked-as : check_of edition1 b ≡ checked.Log (count_of b) cycles
+  checked-as : check_of edition1 b ≡ log_with (count_of b) cycles
   unfolding check_of
   checked-as = rw log
 
@@ -92,7 +89,7 @@ module _ (b : List ℕ) (small : all_at_most 255 b ≡ true) (log : log_answer e
     pub slot : take slot_size (drop (slot_place k) memory) ≡ slot_at t mutes
 
   -- the opening of an accepted log is the record that the decks start from
-  pub opens : open_of b ≡ record { player = fresh; answer = Accepted }
+  pub opens : open_of b ≡ record { player = fresh; answer = Ok tt }
   unfolding turn_by
   opens = rw log
 
@@ -132,7 +129,7 @@ module _ (b : List ℕ) (small : all_at_most 255 b ≡ true) (log : log_answer e
       abbrev p : Player
       p = d.player
 
-      stands : standing_answer p b ≡ Accepted
+      stands : standing_answer p b ≡ Ok tt
       unfolding standing_answer unit_answer misplaced fault ◌then◌
       stands = rw (log, h.unit, ranged m.cycle m.mutes h.few, h.cycle, h.applied, le-leb _ _ h.within, eq-eqb (due_before ws m.cycle) _ refl)
 
@@ -172,15 +169,15 @@ module _ (b : List ℕ) (small : all_at_most 255 b ≡ true) (log : log_answer e
       abbrev Left : Call → Answer → Player → List ℕ → Type 0
       Left c a q memory = Holds (record { player = q; memory = memory }) (named_by a c m)
 
-      still : (c : Call) (why : Refusal) → Left c (Refused why) p d.memory
+      still : (c : Call) (why : Refusal) → Left c (Err why) p d.memory
       unfolding named_by
       still c why = h
 
       -- A call that hands back a turn: where it is accepted, the invariant of what it makes of the record.
-      turn_holds : (c : Call) (a : Answer) (q : Player) → (a ≡ Accepted → Left c Accepted q d.memory) → Left c a (turn_by a p q).player d.memory
+      turn_holds : (c : Call) (a : Answer) (q : Player) → (a ≡ Ok tt → Left c (Ok tt) q d.memory) → Left c a (turn_by a p q).player d.memory
       unfolding turn_by
-      turn_holds c Accepted q f = f refl
-      turn_holds c (Refused why) q f = still c why
+      turn_holds c (Ok done) q f = f refl
+      turn_holds c (Err why) q f = still c why
 
       -- Play.
 
@@ -189,15 +186,15 @@ module _ (b : List ℕ) (small : all_at_most 255 b ≡ true) (log : log_answer e
       play-holds n out = go (play_answer p n b (length out)) refl
         where
           go : (a : Answer) → play_answer p n b (length out) ≡ a → Left (play n out) a (play_by a p n b out).played.player d.memory
-          go Accepted e = moved_on_lem n (rw h.cycle at (play-passed p b n (length out) e))
-          go (Refused why) e = still (play n out) why
+          go (Ok done) e = moved_on_lem n (rw h.cycle at (play-passed p b n (length out) e))
+          go (Err why) e = still (play n out) why
 
       -- Seek.
 
-      sought : (t : ℕ) → t ≤ cycles → Left (seek t) Accepted (sought_from ws p t) d.memory
+      sought : (t : ℕ) → t ≤ cycles → Left (seek t) (Ok tt) (sought_from ws p t) d.memory
       unfolding named_by names sought_from
       sought t l =
-          ways (λ (q : Player). Left (seek t) Accepted q d.memory) (leb p.cycle t)
+          ways (λ (q : Player). Left (seek t) (Ok tt) q d.memory) (leb p.cycle t)
           (λ g.
           let e : m.cycle + (t - p.cycle) ≡ t = omega (arith, leb-true p.cycle t g, h.cycle) in
           subst (λ (c : ℕ). Holds (record { player = moved_on ws p (t - p.cycle); memory = d.memory }) (at_cycle c m)) e
@@ -209,7 +206,7 @@ module _ (b : List ℕ) (small : all_at_most 255 b ≡ true) (log : log_answer e
 
       -- Clear.
 
-      cleared : (k : ℕ) → k ≤ 15 → Left (clear k) Accepted (with_marks p (without_mark k p.marks)) d.memory
+      cleared : (k : ℕ) → k ≤ 15 → Left (clear k) (Ok tt) (with_marks p (without_mark k p.marks)) d.memory
       unfolding named_by names
       cleared k l =
           record {
@@ -230,7 +227,7 @@ module _ (b : List ℕ) (small : all_at_most 255 b ≡ true) (log : log_answer e
 
       -- Mute.
 
-      now-muted : (bits : ℕ) → bits ≤ 63 → Left (mute bits) Accepted (muted p bits) d.memory
+      now-muted : (bits : ℕ) → bits ≤ 63 → Left (mute bits) (Ok tt) (muted p bits) d.memory
       unfolding named_by names
       now-muted bits l =
           record {
@@ -303,8 +300,8 @@ module _ (b : List ℕ) (small : all_at_most 255 b ≡ true) (log : log_answer e
 
         set-by : (a : Answer) → set_answer above p k b (length d.memory) ≡ a → Sets a
         unfolding set_by named_by
-        set-by Accepted f = let t = set-passed p b above k (length d.memory) f in rw e (stored-holds k t.1 t.0)
-        set-by (Refused why) f = still c why
+        set-by (Ok done) f = let t = set-passed p b above k (length d.memory) f in rw e (stored-holds k t.1 t.0)
+        set-by (Err why) f = still c why
 
         set_holds : Sets (set_answer above p k b (length d.memory))
         set_holds = set-by (set_answer above p k b (length d.memory)) refl
@@ -354,14 +351,14 @@ module _ (b : List ℕ) (small : all_at_most 255 b ≡ true) (log : log_answer e
         recalls = rw (image-back, reads-back (unit_at t o.mutes) (ranged t o.mutes o.few), cycle-back, applied_back)
 
         -- none of the slot's own faults
-        sound-image : read_answer (slot_image d.memory k) ≡ Accepted
+        sound-image : read_answer (slot_image d.memory k) ≡ Ok tt
         sound-image = rw image-back (image-sound (unit_at t o.mutes) (ranged t o.mutes o.few))
 
         sound-place : misplaced b (slot_cycle d.memory k) (slot_applied d.memory k) ≡ false
         unfolding misplaced
         sound-place = rw (cycle-back, applied_back, le-leb t cycles o.within, eq-eqb (due_before ws t) (due_before ws t) refl)
 
-      went : (k : ℕ) → Kept d.memory k (m.mark k) → Left (go_to k) Accepted (in_slot p d.memory k) d.memory
+      went : (k : ℕ) → Kept d.memory k (m.mark k) → Left (go_to k) (Ok tt) (in_slot p d.memory k) d.memory
       unfolding named_by names
       went k o =
           rw (recalls k (m.mark k) o)
@@ -400,28 +397,28 @@ module _ (b : List ℕ) (small : all_at_most 255 b ≡ true) (log : log_answer e
 
       play-yields : (n : ℕ) (out : List ℤ) (a : Answer) → (play_by a p n b out).out ≡ yields ws m.mutes m.cycle a n out
       unfolding play_by yields
-      play-yields n out Accepted = spanned n out
-      play-yields n out (Refused why) = refl
+      play-yields n out (Ok done) = spanned n out
+      play-yields n out (Err why) = refl
 
       play-counts : (n : ℕ) (out : List ℤ) (a : Answer) → (play_by a p n b out).played.frames ≡ yields_count ws m.mutes m.cycle a n
       unfolding play_by yields_count
-      play-counts n out Accepted = ap (λ (u : Vsu). frames_due u n) h.unit ∙ sym (span-length n)
-      play-counts n out (Refused why) = refl
+      play-counts n out (Ok done) = ap (λ (u : Vsu). frames_due u n) h.unit ∙ sym (span-length n)
+      play-counts n out (Err why) = refl
 
       span_counts : (n : ℕ) → counts_of (moments_on ws p.cycle p.unit n) ≡ counts_of (moments_in ws m.cycle (m.cycle + n))
       span_counts n = rw (h.cycle, h.unit) (counts-span ws m.mutes m.cycle n)
 
       play-sorts : (n : ℕ) (out : List ℤ) (a : Answer) → (play_by a p n b out).played.counts ≡ yields_counts ws m.cycle a n
       unfolding play_by yields_counts
-      play-sorts n out Accepted = span_counts n
-      play-sorts n out (Refused why) = refl
+      play-sorts n out (Ok done) = span_counts n
+      play-sorts n out (Err why) = refl
 
       sorts-in-all : (n : ℕ) (a : Answer) → in_all (yields_counts ws m.cycle a n) ≡ yields_entries ws m.cycle a n
       unfolding yields_counts yields_entries
-      sorts-in-all n Accepted =
+      sorts-in-all n (Ok done) =
           in_all_lem (moments_in ws m.cycle (m.cycle + n)) ∙ ap length (moments-span ws m.cycle n)
           ∙ omega (arith, moments-on-length ws m.cycle (state_at ws m.cycle) n)
-      sorts-in-all n (Refused why) = refl
+      sorts-in-all n (Err why) = refl
 
       -- The answers.
 
@@ -525,7 +522,7 @@ module _ (b : List ℕ) (small : all_at_most 255 b ≡ true) (log : log_answer e
     -- What follows from it.
 
     -- a call that 01 accepts there is accepted, and stands where it names
-    goes_on : (c : Call) (d : Deck) (m : Named) → Holds d m → answer_at ws cycles size c m ≡ Accepted → Holds (after b c d) (names c m)
+    goes_on : (c : Call) (d : Deck) (m : Named) → Holds d m → answer_at ws cycles size c m ≡ Ok tt → Holds (after b c d) (names c m)
     unfolding named_by
     goes_on c d m h a = subst (λ (r : Answer). Holds (after b c d) (named_by r c m)) a (step-holds c d m h)
 
@@ -535,13 +532,13 @@ module _ (b : List ℕ) (small : all_at_most 255 b ≡ true) (log : log_answer e
 
     -- wherever the deck stands, a seek to t and a play of n yield what the unbroken run yields from t to t + n with the present mutes,
     -- where L and the buffer have room for it
-    pub jump_back : (cs : List Call) (t n : ℕ) (out : List ℤ) → t + n ≤ cycles → length (jumped cs t n) ≤ length out / 2 → (answer_of b (play n out) (after b (seek t) (deck_of cs)) ≡ Accepted) × ((play_of (after b (seek t) (deck_of cs)).player n b out).out ≡ sides (jumped cs t n) ++ drop (length (jumped cs t n) * 2) out)
+    pub jump_back : (cs : List Call) (t n : ℕ) (out : List ℤ) → t + n ≤ cycles → length (jumped cs t n) ≤ length out / 2 → (answer_of b (play n out) (after b (seek t) (deck_of cs)) ≡ Ok tt) × ((play_of (after b (seek t) (deck_of cs)).player n b out).out ≡ sides (jumped cs t n) ++ drop (length (jumped cs t n) * 2) out)
     unfolding answer_at names yields fault ◌then◌
     jump_back cs t n out l r =
         let m : Named = named_of cs in
-        let a : answer_at ws cycles size (seek t) m ≡ Accepted = rw (le-ltb cycles t (omega arith)) in
+        let a : answer_at ws cycles size (seek t) m ≡ Ok tt = rw (le-ltb cycles t (omega arith)) in
         let s = in-run _ _ (goes_on (seek t) (deck_of cs) m (reached cs) a) in
-        let e : answer_at ws cycles size (play n out) (names (seek t) m) ≡ Accepted = rw (le-ltb cycles (t + n) l, le-leb (length (jumped cs t n)) (length out / 2) r) in
+        let e : answer_at ws cycles size (play n out) (names (seek t) m) ≡ Ok tt = rw (le-ltb cycles (t + n) l, le-leb (length (jumped cs t n)) (length out / 2) r) in
         (s.answers (play n out) ∙ e, rw e at (s.plays n out))
 
     -- A set mark that a call spares stays set, and at its cycle.
@@ -577,8 +574,8 @@ module _ (b : List ℕ) (small : all_at_most 255 b ≡ true) (log : log_answer e
 
       next-spares : (c : Call) → Spares k c → (m : Named) → is_set k m.marks ≡ true → (a : Answer) → Stays m (named_by a c m)
       unfolding named_by
-      next-spares c f m s Accepted = name-spares c f m s
-      next-spares c f m s (Refused why) = (s, refl)
+      next-spares c f m s (Ok done) = name-spares c f m s
+      next-spares c f m s (Err why) = (s, refl)
 
       all-spare : (cs : List Call) → AllSpare k cs → (m : Named) → is_set k m.marks ≡ true → Stays m (named_all ws cycles size cs m)
       unfolding named_all
@@ -600,11 +597,11 @@ module _ (b : List ℕ) (small : all_at_most 255 b ≡ true) (log : log_answer e
       -- at the cycle and in the state of the set, all but the mutes, which are those before the go-to
       abbrev Returned : Type 0
       Returned =
-          (answer_of b (go_to k) back ≡ Accepted)
+          (answer_of b (go_to k) back ≡ Ok tt)
           × (((after b (go_to k) back).player.cycle ≡ before.player.cycle) × ((after b (go_to k) back).player.unit ≡ with_mutes before.player.unit back.player.unit.mutes))
 
       -- the go-to is accepted and stands where the deck stood
-      returns : names c (named_of cs) ≡ set_now k (named_of cs) → answer_at ws cycles size c (named_of cs) ≡ Accepted → k ≤ 15 → memory_size ≤ size → Returned
+      returns : names c (named_of cs) ≡ set_now k (named_of cs) → answer_at ws cycles size c (named_of cs) ≡ Ok tt → k ≤ 15 → memory_size ≤ size → Returned
       unfolding answer_at names fault ◌then◌
       returns e a l r =
           let m : Named = named_of cs in
@@ -613,31 +610,31 @@ module _ (b : List ℕ) (small : all_at_most 255 b ≡ true) (log : log_answer e
           let s : is_set k (with_mark k m.marks) ≡ true = rw (set-with k k m.marks l, eq-eqb k k refl) in
           let g = all-spare k l es f (set_now k m) s in
           let q : Named = named_all ws cycles size es (set_now k m) in
-          let w : answer_at ws cycles size (go_to k) q ≡ Accepted = rw (le-ltb size memory_size r, le-ltb 15 k l, g.0) in
+          let w : answer_at ws cycles size (go_to k) q ≡ Ok tt = rw (le-ltb size memory_size r, le-ltb 15 k l, g.0) in
           let z : Holds back q = all_hold es _ _ h in
           let t = goes_on (go_to k) back q z w in
           let n : q.mark k ≡ m.cycle = g.1 ∙ rw (eq-eqb k k refl) in
           ((in-run _ _ z).answers (go_to k) ∙ w, (t.cycle ∙ n ∙ sym o.cycle, t.unit ∙ ap₂ unit_at n (sym (ap (λ (u : Vsu). u.mutes) z.unit)) ∙ ap (λ (u : Vsu). with_mutes u back.player.unit.mutes) (sym o.unit)))
 
     -- room for the marks, and a slot of the sixteen
-    room-and-slot : (k : ℕ) (above : Refusal) → (fault (ltb size memory_size) Room then fault (ltb 15 k) above) ≡ Accepted → (memory_size ≤ size) × (k ≤ 15)
+    room-and-slot : (k : ℕ) (above : Refusal) → (fault (ltb size memory_size) Room then fault (ltb 15 k) above) ≡ Ok tt → (memory_size ≤ size) × (k ≤ 15)
     room-and-slot k above e =
         let t = passed (ltb size memory_size) Room e in
         (ltb-false size memory_size t.0, ltb-false 15 k (was-sound (ltb 15 k) above t.1))
 
     -- a mark set by its number
-    pub set-then-return : (cs es : List Call) (k : ℕ) (f : AllSpare k es) → answer_of b (set_mark k) (deck_of cs) ≡ Accepted → Returned cs es (set_mark k) k f
+    pub set-then-return : (cs es : List Call) (k : ℕ) (f : AllSpare k es) → answer_of b (set_mark k) (deck_of cs) ≡ Ok tt → Returned cs es (set_mark k) k f
     unfolding answer_at names
     set-then-return cs es k f a =
-        let e : answer_at ws cycles size (set_mark k) (named_of cs) ≡ Accepted = sym ((demand-3 cs).answers (set_mark k)) ∙ a in
+        let e : answer_at ws cycles size (set_mark k) (named_of cs) ≡ Ok tt = sym ((demand-3 cs).answers (set_mark k)) ∙ a in
         let t = room-and-slot k MarkNumber e in
         returns cs es (set_mark k) k f refl e t.1 t.0
 
     -- and the lowest free one
-    pub free-then-return : (cs es : List Call) (k : ℕ) (f : AllSpare k es) → k ≡ lowest_free (deck_of cs).player.marks → answer_of b set_free (deck_of cs) ≡ Accepted → Returned cs es set_free k f
+    pub free-then-return : (cs es : List Call) (k : ℕ) (f : AllSpare k es) → k ≡ lowest_free (deck_of cs).player.marks → answer_of b set_free (deck_of cs) ≡ Ok tt → Returned cs es set_free k f
     unfolding answer_at names
     free-then-return cs es k f i a =
-        let e : answer_at ws cycles size set_free (named_of cs) ≡ Accepted = sym ((demand-3 cs).answers set_free) ∙ a in
+        let e : answer_at ws cycles size set_free (named_of cs) ≡ Ok tt = sym ((demand-3 cs).answers set_free) ∙ a in
         let j : lowest_free (named_of cs).marks ≡ k = ap lowest_free (sym (demand-3 cs).marks) ∙ sym i in
         let t = room-and-slot (lowest_free (named_of cs).marks) MarksFull e in
         returns cs es set_free k f (ap (λ (n : ℕ). set_now n (named_of cs)) j) e (subst (λ (n : ℕ). n ≤ 15) j t.1) t.0

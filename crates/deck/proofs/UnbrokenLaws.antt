@@ -14,9 +14,7 @@ use Rattle.vsu.proofs.RangeLaws.{cycle-keeps, power-on-in-range, small_at, write
 use Rattle.vsu.proofs.RunLaws.{frames-length, output-at}
 use Rattle.common.specs.Bits.{bit}
 use Rattle.six.specs.Core.{any_plays, plays, voice_at}
-use Rattle.vsu.proofs.CoreLaws.{says-accepted}
-use Rattle.refusal.specs.declared.Answer.TheVariants.{Accepted}
-use Rattle.vsu.specs.Core.{all_at_most, cycle, decode_of, frames, frames_due, in_range, made, power_on, run, said_answer, says, with_mutes, write, write_to}
+use Rattle.vsu.specs.Core.{all_at_most, cycle, decode_of, frames, frames_due, in_range, made, power_on, run, says, with_mutes, write, write_to}
 use Rattle.vsu.specs.declared.unit.Said.{Said}
 use Rattle.vsu.specs.declared.unit.Said.TheVariants as said
 use Rattle.vsu.specs.declared.unit.Frame.{Frame}
@@ -233,18 +231,16 @@ moments-on-length ws c u (suc n) =
 
 -- each is of one sort: the three numbers add up
 
-one-sort : (s : Said) → said_answer s ≡ Accepted → cond (is_taken s) 1 0 + cond (is_held s) 1 0 + cond (is_none s) 1 0 ≡ 1
-unfolding said_answer
-one-sort said.Taken e = refl
-one-sort said.Held e = refl
-one-sort said.NoRegister e = refl
-one-sort (said.Refused why) e = let z : ◌≡◌ {A = ℕ} 0 1 = cc in absurd (omega arith)
+one-sort : (s : Said) → cond (is_taken s) 1 0 + cond (is_held s) 1 0 + cond (is_none s) 1 0 ≡ 1
+one-sort said.Taken = refl
+one-sort said.Held = refl
+one-sort said.NoRegister = refl
 
 pub in_all_lem : (ms : List Moment) → in_all (counts_of ms) ≡ length ms
 unfolding how_many
 in_all_lem [] = refl
 in_all_lem (m ∷ ms) =
-    omega (arith, one-sort (says m.entry.address m.unit) (says-accepted m.entry.address m.unit), in_all_lem ms)
+    omega (arith, one-sort (says m.entry.address m.unit), in_all_lem ms)
 
 -- a state in range stays in range, and a write leaves the output counter
 

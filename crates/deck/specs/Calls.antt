@@ -2,12 +2,10 @@
 -- stands at the cycle the calls name, in the state that one unbroken run from power-on, cycle by cycle, has there, all but the mute
 -- bits, which are those of the last mute call. Each accepted play yields exactly that run's frames in its span, with the present
 -- mutes, and counts that run's entries in it by what they say.
-use Rattle.std.specs.Prelude.{◌≡◌, ℕ, ◌+◌, ◌-◌, ◌*◌, ◌/◌, cond, not, List, [], ◌∷◌, ◌++◌, length, drop, ℤ, ◌==◌, nat_le, nat_lt}
+use Rattle.std.specs.Prelude.{◌≡◌, ℕ, ◌+◌, ◌-◌, ◌*◌, ◌/◌, cond, not, List, [], ◌∷◌, ◌++◌, length, drop, ℤ, ◌==◌, nat_le, nat_lt, Ok, Err}
 use Rattle.register_log.specs.Log.{due_before}
 use Rattle.register_log.specs.declared.Write.{Write}
-use Rattle.refusal.specs.Refusal.{fault, ◌then◌}
-use Rattle.refusal.specs.declared.Answer.{Answer}
-use Rattle.refusal.specs.declared.Answer.TheVariants.{Accepted, Refused}
+use Rattle.refusal.specs.Refusal.{fault, ◌then◌, Answer}
 use Rattle.refusal.specs.declared.Refusal.TheVariants.{BeyondEnd, MarkNumber, MarkUnset, MarksFull, Room, State}
 use Rattle.vsu.specs.Core.{sides, with_mutes}
 use Rattle.marks.specs.Marks.{is_set, lowest_free, with_mark, without_mark}
@@ -109,8 +107,8 @@ names (mute bits) m = record { cycle = m.cycle; marks = m.marks; mark = m.mark; 
 
 -- a refused call names nothing
 unfoldable pub named_by : Answer → Call → Named → Named
-named_by Accepted c m = names c m
-named_by (Refused why) c m = m
+named_by (Ok done) c m = names c m
+named_by (Err why) c m = m
 
 unfoldable pub named_all : List Write → ℕ → ℕ → List Call → Named → Named
 named_all ws cycles size [] m = m
@@ -118,24 +116,24 @@ named_all ws cycles size (c ∷ cs) m = named_all ws cycles size cs (named_by (a
 
 -- What a play leaves in its buffer: the run's frames of its span, with the mutes, then the buffer's old elements; a refused one leaves it.
 unfoldable pub yields : List Write → ℕ → ℕ → Answer → ℕ → List ℤ → List ℤ
-yields ws mutes before Accepted n out =
+yields ws mutes before (Ok done) n out =
     sides (frames_in ws mutes before (before + n)) ++ drop (length (frames_in ws mutes before (before + n)) * 2) out
-yields ws mutes before (Refused why) n out = out
+yields ws mutes before (Err why) n out = out
 
 -- how many frames it answers
 unfoldable pub yields_count : List Write → ℕ → ℕ → Answer → ℕ → ℕ
-yields_count ws mutes before Accepted n = length (frames_in ws mutes before (before + n))
-yields_count ws mutes before (Refused why) n = 0
+yields_count ws mutes before (Ok done) n = length (frames_in ws mutes before (before + n))
+yields_count ws mutes before (Err why) n = 0
 
 -- how many entries of each sort: of those due in its span, each at its moment in the run
 unfoldable pub yields_counts : List Write → ℕ → Answer → ℕ → Counts
-yields_counts ws before Accepted n = counts_of (moments_in ws before (before + n))
-yields_counts ws before (Refused why) n = no_counts
+yields_counts ws before (Ok done) n = counts_of (moments_in ws before (before + n))
+yields_counts ws before (Err why) n = no_counts
 
 -- how many entries those are in all
 unfoldable pub yields_entries : List Write → ℕ → Answer → ℕ → ℕ
-yields_entries ws before Accepted n = due_before ws (before + n) - due_before ws before
-yields_entries ws before (Refused why) n = 0
+yields_entries ws before (Ok done) n = due_before ws (before + n) - due_before ws before
+yields_entries ws before (Err why) n = 0
 
 -- What demand 3 says of a deck, where the calls have named m: it stands in the run of the log's writes at the cycle named, with the
 -- mutes named, the next call is answered as the documents say, and a play from there yields the run's frames with those mutes and counts

@@ -1,24 +1,21 @@
 -- The player, in document 01's words: a record, and the calls. Each call has one order of refusals, and by its first fault, or none,
 -- one definition gives the record, the count, the answer and what the lent memory holds afterwards.
-use Rattle.std.specs.Prelude.{ℕ, ◌+◌, ◌-◌, ◌*◌, Bool, cond, not, ◌&&◌, List, ◌++◌, length, take, drop, ℤ, ◌==◌, nat_le, nat_lt}
+use Rattle.std.specs.Prelude.{ℕ, ◌+◌, ◌-◌, ◌*◌, Bool, cond, not, ◌&&◌, List, ◌++◌, length, take, drop, ℤ, ◌==◌, nat_le, nat_lt, Result, Ok, Err}
 use Rattle.std.proofs.lemmas.List.Edits.{sets}
 use Rattle.little.specs.Little.{bytes, number}
-use Rattle.register_log.specs.Log.{checked_by, count_of, cycles_of, due_before, edition1, log_answer, writes_of}
-use Rattle.register_log.specs.declared.Checked.{Checked}
+use Rattle.register_log.specs.Log.{checked_by, count_of, cycles_of, due_before, edition1, log_answer, writes_of, Checked}
 use Rattle.register_log.specs.declared.Write.{Write}
 use Rattle.image.specs.Image.{image_of, read_answer, read_of}
 use Rattle.marks.specs.Marks.{is_set, lowest_free, with_mark, without_mark}
-use Rattle.refusal.specs.Refusal.{fault, ◌then◌}
-use Rattle.refusal.specs.declared.Answer.{Answer}
-use Rattle.refusal.specs.declared.Answer.TheVariants.{Accepted, Refused}
+use Rattle.refusal.specs.Refusal.{fault, ◌then◌, Answer}
 use Rattle.refusal.specs.declared.Refusal.{Refusal}
 use Rattle.refusal.specs.declared.Refusal.TheVariants.{State, Room, BeyondEnd, Place, MarkNumber, MarkUnset, MarksFull}
 use Rattle.table.specs.Table.{newest}
 use Rattle.vsu.specs.Core.{fits_in, frames_due, power_on, sides, unit_answer, with_mutes}
 use Rattle.deck.specs.Unbroken.{counts_of, frames_on, moments_on, no_counts, run_on}
+use Rattle.deck.specs.declared.Counts.{Counts}
 use Rattle.deck.specs.declared.Played.{Played}
 use Rattle.deck.specs.declared.Player.{Player}
-use Rattle.deck.specs.declared.Turn.{Turn}
 
 -- A lent log: its writes and its L.
 
@@ -32,10 +29,15 @@ length_in b = cycles_of edition1 b
 abbrev pub fresh : Player
 fresh = record { unit = power_on; cycle = 0; applied = 0; marks = 0 }
 
+-- the record after a call, and how it ended
+pub record Turn : Type 0 where
+  pub player : Player
+  pub answer : Answer
+
 -- "A refused call hands back the given record": what a call answers that makes q of p.
 unfoldable pub turn_by : Answer → Player → Player → Turn
-turn_by Accepted p q = record { player = q; answer = Accepted }
-turn_by (Refused why) p q = record { player = p; answer = Refused why }
+turn_by (Ok done) p q = record { player = q; answer = Ok tt }
+turn_by (Err why) p q = record { player = p; answer = Err why }
 
 -- Opening: the log's own; "a refused opening hands back the power-on record".
 abbrev pub open_of : List ℕ → Turn
@@ -71,27 +73,47 @@ play_answer p n b room =
     then fault (nat_lt (length_in b) (p.cycle + n)) BeyondEnd
     then fault (not (fits_in n p.unit room)) Room
 
+-- as a turn, of a play, with the number of its frames and what the entries of its span said
+pub record PlayTurn : Type 0 where
+  pub player : Player
+  pub frames : ℕ
+  pub counts : Counts
+  pub answer : Answer
+
 pub record PlayGives : Type 0 where
-  pub played : Played
+  pub played : PlayTurn
   pub out : List ℤ
 
 unfoldable pub play_by : Answer → Player → ℕ → List ℕ → List ℤ → PlayGives
-play_by Accepted p n b out =
+play_by (Ok done) p n b out =
     record {
       played =
           record {
             player = moved_on (writes_in b) p n;
             frames = frames_due p.unit n;
             counts = counts_of (moments_on (writes_in b) p.cycle p.unit n);
-            answer = Accepted;
+            answer = Ok tt;
           };
       out = sides (frames_on (writes_in b) p.cycle p.unit n) ++ drop (frames_due p.unit n * 2) out;
     }
-play_by (Refused why) p n b out =
-    record { played = record { player = p; frames = 0; counts = no_counts; answer = Refused why }; out = out }
+play_by (Err why) p n b out =
+    record { played = record { player = p; frames = 0; counts = no_counts; answer = Err why }; out = out }
 
 abbrev pub play_of : Player → ℕ → List ℕ → List ℤ → PlayGives
 play_of p n b out = play_by (play_answer p n b (length out)) p n b out
+
+-- the Result of such a call: a refused one has neither frames nor counts, as it made 0 of each
+unfoldable pub made_by : Answer → PlayTurn → Result Played Refusal
+made_by (Ok done) t = Ok (record { frames = t.frames; counts = t.counts })
+made_by (Err why) t = Err why
+
+abbrev pub made_of : PlayTurn → Result Played Refusal
+made_of t = made_by t.answer t
+
+-- how a call ended, of one that makes something
+abbrev pub ended : {A : Type 0} → Result A Refusal → Answer
+ended (Ok made) = Ok tt
+ended (Err why) = Err why
 
 -- Seek: then 12. It "runs on from the present cycle, or from power-on when the target is earlier"; the mutes are "kept by seek".
 
@@ -156,9 +178,9 @@ pub record SetGives : Type 0 where
   pub memory : List ℕ
 
 unfoldable pub set_by : Answer → Player → ℕ → List ℕ → SetGives
-set_by Accepted p slot memory =
-    record { turn = record { player = marked p slot; answer = Accepted }; memory = sets memory (slot_place slot) (slot_of p) }
-set_by (Refused why) p slot memory = record { turn = record { player = p; answer = Refused why }; memory = memory }
+set_by (Ok done) p slot memory =
+    record { turn = record { player = marked p slot; answer = Ok tt }; memory = sets memory (slot_place slot) (slot_of p) }
+set_by (Err why) p slot memory = record { turn = record { player = p; answer = Err why }; memory = memory }
 
 abbrev pub set_of : Refusal → Player → ℕ → List ℕ → List ℕ → SetGives
 set_of above p slot b memory = set_by (set_answer above p slot b (length memory)) p slot memory

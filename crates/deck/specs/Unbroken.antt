@@ -5,7 +5,7 @@ use Rattle.register_log.specs.declared.Write.{Write}
 use Rattle.vsu.specs.Core.{cycle, made, power_on, says, with_mutes, write}
 use Rattle.vsu.specs.declared.unit.Frame.{Frame}
 use Rattle.vsu.specs.declared.unit.Said.{Said}
-use Rattle.vsu.specs.declared.unit.Said.TheVariants.{Taken, Held, NoRegister, Refused}
+use Rattle.vsu.specs.declared.unit.Said.TheVariants.{Taken, Held, NoRegister}
 use Rattle.vsu.specs.declared.unit.Vsu.{Vsu}
 use Rattle.deck.specs.declared.Counts.{Counts}
 
@@ -55,19 +55,16 @@ abbrev pub is_taken : Said → Bool
 is_taken Taken = true
 is_taken Held = false
 is_taken NoRegister = false
-is_taken (Refused why) = false
 
 abbrev pub is_held : Said → Bool
 is_held Taken = false
 is_held Held = true
 is_held NoRegister = false
-is_held (Refused why) = false
 
 abbrev pub is_none : Said → Bool
 is_none Taken = false
 is_none Held = false
 is_none NoRegister = true
-is_none (Refused why) = false
 
 unfoldable pub how_many : (Said → Bool) → List Moment → ℕ
 how_many sort [] = 0

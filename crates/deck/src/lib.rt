@@ -1,7 +1,7 @@
 // The player's record, and what its calls hand back. No code: by document 01 what each call makes of them, and the theorem of demand 3.
 #![tactic(auto)]
 
-use refusal::Answer;
+use refusal::Refusal;
 use vsu::unit::Vsu;
 
 // "slot k at 428 × k is u32 cycle, u32 applied, image; 6,848 bytes in all"
@@ -21,26 +21,24 @@ pub struct Player {
     pub marks: u16,
 }
 
-// The record after a call, and how it ended.
+// The record that an opening makes, and how it ended: no Result, since "a refused opening hands back the power-on record".
 #[derive(Clone, Copy)]
-pub struct Turn {
+pub struct Opened {
     pub player: Player,
-    pub answer: Answer,
+    pub answer: Result<(), Refusal>,
 }
 
 // How many entries were taken, were held off by playing, had no register.
-#[derive(Clone, Copy)]
+#[derive(Clone, Copy, Default)]
 pub struct Counts {
     pub taken: u32,
     pub held: u32,
     pub none: u32,
 }
 
-// As a turn, of a play, with the number of its frames and what the entries of its span said.
-#[derive(Clone, Copy)]
+// What a play has made: the number of its frames, and what the entries of its span said.
+#[derive(Clone, Copy, Default)]
 pub struct Played {
-    pub player: Player,
     pub frames: u32,
     pub counts: Counts,
-    pub answer: Answer,
 }

@@ -1,3 +1,2 @@
 mod PlayerLaws
-mod RowsLaws
 mod WalkLaws

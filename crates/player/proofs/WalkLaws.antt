@@ -1,7 +1,6 @@
 -- A run through a log's writes: past a write, past cycles with none; and what the loops of `skip_to` and `run_to` hold.
-use Rattle.std.specs.Prelude.{◌≡◌, ℕ, zero, suc, ◌+◌, ◌-◌, ◌*◌, ◌<◌, ◌≤◌, Bool, true, false, cond, ◌&&◌, ltb, List, [], ◌∷◌, ◌++◌, length, take, drop, ℤ}
+use Rattle.std.specs.Prelude.{◌≡◌, ℕ, zero, suc, ◌+◌, ◌-◌, ◌*◌, ◌<◌, ◌≤◌, Bool, true, false, cond, ◌&&◌, ltb, List, [], ◌∷◌, ◌++◌, length, min, take, drop, ℤ, Ok}
 use mathlib.Core.Path.{refl, sym, ap, ap₂, ◌∙◌}
-use mathlib.Core.Bool.{and-false}
 use mathlib.Core.List.{append_assoc, append-nil}
 use native.Mathlib.Nat.{add-zero, zero-add, le_trans, le_refl}
 use native.Mathlib.Numerals.{add-one}
@@ -16,16 +15,15 @@ use Rattle.register_log.specs.declared.Write.{Write}
 use Rattle.vsu.proofs.RangeLaws.{range-facts, run-keeps, write_keeps}
 use Rattle.vsu.proofs.CoreLaws.{advance-gives, run-gives, write-gives}
 use Rattle.vsu.proofs.RunLaws.{frames-length, front_length, sides-append, sides-length}
-use Rattle.refusal.specs.declared.Answer.TheVariants as answer
-use Rattle.vsu.specs.Core.{RunGives, advance_of, cycle, frames, frames_due, in_range, made, run, run_of, says, sides, write, write_of}
+use Rattle.vsu.specs.Core.{RunGives, advance_of, cycle, frames, frames_due, in_range, made, run, run_of, says, sides, write, write_of, Moved, Written}
 use Rattle.vsu.specs.declared.unit.Frame.{Frame}
-use Rattle.vsu.specs.declared.unit.Moved.{Moved}
 use Rattle.vsu.specs.declared.unit.Said.{Said}
 use Rattle.vsu.specs.declared.unit.Said.TheVariants as said
 use Rattle.vsu.specs.declared.unit.Vsu.{Vsu}
-use Rattle.vsu.specs.declared.unit.Written.{Written}
 use Rattle.deck.specs.Unbroken.{Moment, apply_at, counts_of, frames_on, how_many, in_all, is_held, is_none, is_taken, moments_at, moments_on, no_counts, run_on}
+use Rattle.deck.specs.Player.{moved_on}
 use Rattle.deck.specs.declared.Counts.{Counts}
+use Rattle.deck.specs.declared.Player.{Player}
 use Rattle.deck.proofs.UnbrokenLaws.{counts-append, due-most, frames-on-add, frames-on-length, frames-past, in_all_lem, moments-on-add, moments-on-length, moments-past, run-on-add, run_past}
 use Rattle.player.specs.Walk.{counted_by, next_of, Walkable}
 
@@ -37,13 +35,13 @@ pub record Next (b : List ℕ) (count k target due : ℕ) : Type 0 where
   pub some : due < target → (k < count) × (due ≡ due_at edition1 b k)
 
 module _ (b : List ℕ) (count k target : ℕ) where
-  pub next_here : k < count → {due : ℕ} → due ≡ due_at edition1 b k → due < target → due ≡ next_of b count k target
+  pub next-least : k < count → {due least : ℕ} → due ≡ due_at edition1 b k → least ≡ min due target → least ≡ next_of b count k target
   unfolding next_of
-  next_here h e l = rw (← e, lt-ltb k count h, lt-ltb _ target l)
-
-  pub next-far : {due : ℕ} → due ≡ due_at edition1 b k → target ≤ due → target ≡ next_of b count k target
-  unfolding next_of
-  next-far e l = rw (← e, le-ltb _ target l, and-false)
+  next-least h {due} d e = rw (e, ← d, lt-ltb k count h) (go (ltb due target) refl)
+    where
+      go : (t : Bool) → ltb due target ≡ t → min due target ≡ cond t due target
+      go true t = let l = ltb-true due target t in omega (arith, l)
+      go false t = let l = ltb-false due target t in omega (arith, l)
 
   pub next-ended : count ≤ k → target ≡ next_of b count k target
   unfolding next_of
@@ -209,7 +207,6 @@ counted-more ms m = rw (counts-append is_taken ms (m ∷ []), counts-append is_h
     go said.Taken = one_each refl (add-zero _) (add-zero _)
     go said.Held = one_each (add-zero _) refl (add-zero _)
     go said.NoRegister = one_each (add-zero _) (add-zero _) refl
-    go (said.Refused why) = one_each (add-zero _) (add-zero _) (add-zero _)
 
 -- What the loop of `skip_to` holds: of the writes, the first k have been applied, and the rest is ahead.
 
@@ -459,7 +456,7 @@ module _ (ws : List Write) (u : Vsu) (start target : ℕ) where
         abbrev given : RunGives
         given = run_of (due - cycle) unit (take size (drop at out))
 
-        gives : given ≡ record { ran = record { state = run (due - cycle) unit; frames = frames_due unit (due - cycle); answer = answer.Accepted }; out = sides (frames (due - cycle) unit) ++ drop (frames_due unit (due - cycle) * 2) (take size (drop at out)) }
+        gives : given ≡ record { ran = record { state = run (due - cycle) unit; frames = frames_due unit (due - cycle); answer = Ok tt }; out = sides (frames (due - cycle) unit) ++ drop (frames_due unit (due - cycle) * 2) (take size (drop at out)) }
         gives =
             run-gives unit h.walking.ranged (due - cycle) (take size (drop at out))
             (omega (arith, q.most, to-come, ap length lent, length-drop at before))
@@ -538,45 +535,96 @@ module _ (b : List ℕ) (count : ℕ) where
       go false t =
           rw (drop_of_length-le Log {i = k} (omega (arith, writes-length edition1 b count 0, ltb-false k count t))) tt
 
-  module _ (u : Vsu) (start applied target : ℕ) (p : Walkable b count u start applied target) where
+  -- what the loops hold of the record q that they have made of p
+
+  module _ (p : Player) (target : ℕ) where
+    abbrev pub Skips : Player → Type 0
+    Skips q = Walking Log p.unit p.cycle target q.unit q.applied q.cycle × (q.marks ≡ p.marks)
+
+    pub skipped : {q : Player} → Skips q → p.cycle ≤ target → target ≤ q.cycle → q ≡ moved_on Log p (target - p.cycle)
+    unfolding moved_on
+    skipped {q} h a l =
+        let e = walk_ends Log p.unit p.cycle target h.0 l in
+        let c : p.cycle + (target - p.cycle) ≡ target = omega (arith, a) in
+        let d : q.cycle ≡ target = omega (arith, l, h.0.within) in
+        rw (c, ← e.0, ← e.1, ← h.1, ← d)
+
+    module _ {q : Player} (h : Skips q) where
+      pub skip-wrote : {w : Write} → Entry Log p.unit p.cycle target q.applied q.cycle w → {v : Vsu} → v ≡ (write_of w.address w.byte q.unit).state →
+          Skips (record { unit = v; cycle = q.cycle; applied = q.applied + 1; marks = q.marks })
+      skip-wrote {w} n e = (rw (written-by Log p.unit p.cycle target w h.0 e) (walk-writes Log p.unit p.cycle target h.0 n), h.1)
+
+      pub skip-advanced : {due : ℕ} → Quiet Log p.unit p.cycle target q.applied q.cycle due → {v : Vsu} → v ≡ (advance_of (due - q.cycle) q.unit).state →
+          Skips (record { unit = v; cycle = due; applied = q.applied; marks = q.marks })
+      skip-advanced n e = (walk-advances Log p.unit p.cycle target h.0 n e, h.1)
+
+    abbrev pub Plays : List ℤ → Player → List ℤ → ℕ → Counts → Type 0
+    Plays before q out at counts = Playing Log p.unit p.cycle target before q.unit q.applied q.cycle out at counts × (q.marks ≡ p.marks)
+
+    module _ {before : List ℤ} {q : Player} {out : List ℤ} {at : ℕ} {counts : Counts} (h : Plays before q out at counts) where
+      pub skips : Skips q
+      skips = (h.0.walking, h.1)
+
+      pub plays-wrote : {w : Write} → Entry Log p.unit p.cycle target q.applied q.cycle w →
+          {s : Said} → s ≡ says w.address q.unit → {more : Counts} → more ≡ counted_by counts s → {v : Vsu} → v ≡ (write_of w.address w.byte q.unit).state →
+          Plays before (record { unit = v; cycle = q.cycle; applied = q.applied + 1; marks = q.marks }) out at more
+      plays-wrote n e f g = (play-wrote Log p.unit p.cycle target h.0 n e f g, h.1)
+
+      module _ (ranged : in_range p.unit ≡ true) (room : frames_due p.unit (target - p.cycle) * 2 ≤ length before) where
+        -- the next run's frames have room
+        pub plays-room : {due made : ℕ} → Quiet Log p.unit p.cycle target q.applied q.cycle due → made ≡ frames_due q.unit (due - q.cycle) →
+            (at ≤ length out) × (length out ≡ length before) × (at + made * 2 ≤ length before)
+        plays-room n e =
+            let l = play-long Log p.unit p.cycle target ranged before room h.0 in
+            (rw l (play-within Log p.unit p.cycle target ranged before room h.0), l, rw e (play-more Log p.unit p.cycle target ranged before room h.0 n))
+
+        pub plays-ran : {due made : ℕ} → Quiet Log p.unit p.cycle target q.applied q.cycle due → made ≡ frames_due q.unit (due - q.cycle) →
+            {size : ℕ} → size ≡ length out - at → {v : Vsu} → v ≡ (run_of (due - q.cycle) q.unit (take size (drop at out))).ran.state →
+            {ys : List ℤ} → ys ≡ (run_of (due - q.cycle) q.unit (take size (drop at out))).out →
+            Plays before (record { unit = v; cycle = due; applied = q.applied; marks = q.marks }) (take at out ++ (ys ++ drop size (drop at out))) (at + 2 * made) counts
+        plays-ran n m z e f = (play-runs Log p.unit p.cycle target ranged before room h.0 z n e f m, h.1)
+
+  module _ (p : Player) (target : ℕ) (a : Walkable b count p target) where
     rising : Rising Log
-    rising = rising-from (accepted edition1 b count p.cycles p.accepted) count 0 (omega arith)
+    rising = rising-from (accepted edition1 b count a.cycles a.accepted) count 0 (omega arith)
 
-    pub log-walks : Walking Log u start target u applied start
-    log-walks = walk-starts Log u start target rising p.ranged p.stands p.ahead
+    pub log-walks : Skips p target p
+    log-walks = (walk-starts Log p.unit p.cycle target rising a.ranged a.stands a.ahead, refl)
 
-    pub log-plays : (before : List ℤ) → Playing Log u start target before u applied start before 0 no_counts
-    log-plays before = play-starts Log u start target before rising p.ranged p.stands p.ahead
+    pub log-plays : (before : List ℤ) {counts : Counts} → (counts.taken ≡ 0) × ((counts.held ≡ 0) × (counts.none ≡ 0)) → Plays p target before p before 0 counts
+    log-plays before {counts} z =
+        let none : counts ≡ no_counts = sym (one_each z.0 z.1.0 z.1.1) in
+        rw none (play-starts Log p.unit p.cycle target before rising a.ranged a.stands a.ahead, refl)
 
     -- there is always room for one more
-    pub log-counts : {before : List ℤ} {unit : Vsu} {k cycle : ℕ} {out : List ℤ} {at : ℕ} {counts : Counts} → Playing Log u start target before unit k cycle out at counts → in_all counts < 4294967295
+    pub log-counts : {before : List ℤ} {q : Player} {out : List ℤ} {at : ℕ} {counts : Counts} → Plays p target before q out at counts → in_all counts < 4294967295
     log-counts h =
-        omega (arith, play-few Log u start target h, writes-length edition1 b count 0, (accepted edition1 b count p.cycles p.accepted).most)
+        omega (arith, play-few Log p.unit p.cycle target h.0, writes-length edition1 b count 0, (accepted edition1 b count a.cycles a.accepted).most)
 
-    module _ {unit : Vsu} {k cycle due : ℕ} (h : Walking Log u start target unit k cycle) (e : due ≡ next_of b count k target) where
-      log-next : cycle < target → due ≤ cycle → (k < count) × (due_at edition1 b k ≡ cycle)
+    module _ {q : Player} {due : ℕ} (h : Skips p target q) (e : due ≡ next_of b count q.applied target) where
+      log-next : q.cycle < target → due ≤ q.cycle → (q.applied < count) × (due_at edition1 b q.applied ≡ q.cycle)
       unfolding write_at
       log-next l m =
-          let s = (next-facts b count k target e).some (omega arith) in
-          let a : Later cycle (write_at edition1 b k ∷ drop (k + 1) Log) = rw (rest-cons k s.0) at h.ahead in
+          let s = (next-facts b count q.applied target e).some (omega arith) in
+          let a : Later q.cycle (write_at edition1 b q.applied ∷ drop (q.applied + 1) Log) = rw (rest-cons q.applied s.0) at h.0.ahead in
           (s.0, omega (arith, s.1, a.0))
 
-      pub log-left : cycle < target → due ≤ cycle → k < count
+      pub log-left : q.cycle < target → due ≤ q.cycle → q.applied < count
       log-left l m = (log-next l m).0
 
-      pub log-entry : cycle < target → due ≤ cycle → {w : Write} → w ≡ write_at edition1 b k → w.byte < 256 → Entry Log u start target k cycle w
+      pub log-entry : q.cycle < target → due ≤ q.cycle → {w : Write} → w ≡ write_at edition1 b q.applied → w.byte < 256 → Entry Log p.unit p.cycle target q.applied q.cycle w
       unfolding write_at
       log-entry l m {w} f g =
           let s = log-next l m in
           record {
             before = l;
             known = omega (arith, writes-length edition1 b count 0, s.0);
-            next = rw f (rest-cons k s.0);
+            next = rw f (rest-cons q.applied s.0);
             now = ap (λ (w : Write). w.due) f ∙ s.1;
             byte = g;
           }
 
-      pub log-quiet : cycle < due → Quiet Log u start target k cycle due
+      pub log-quiet : q.cycle < due → Quiet Log p.unit p.cycle target q.applied q.cycle due
       log-quiet l =
-          let n = next-facts b count k target e in
-          record { from = omega arith; most = n.most; none = rest-later k target due rising n }
+          let n = next-facts b count q.applied target e in
+          record { from = omega arith; most = n.most; none = rest-later q.applied target due rising n }

@@ -13,8 +13,6 @@ use Rattle.deck.specs.Player.{writes_in}
 use Rattle.deck.specs.Unbroken.{frames_on}
 use Rattle.deck.specs.declared.Player.{Player}
 use Rattle.register_log.specs.Log.{count_of}
-use Rattle.refusal.specs.declared.Answer.{Answer}
-use Rattle.refusal.specs.declared.Answer.TheVariants.{Accepted}
 use Rattle.six.specs.Core.{off_wave, heard_left, heard_right, plays, silenced, silenced_from, sums_of, total, voice_at}
 use Rattle.voice.specs.ChannelEnum.{heard, stop_voice}
 use Rattle.voice.specs.declared.channel_enum.Voice.{Voice}
@@ -25,6 +23,8 @@ use Rattle.stems.specs.Stems.{Buffers, Side, place_of, Remains, added_at, all_bu
 use Rattle.stems.specs.Stems.Side.{left, right}
 use Rattle.stems.proofs.FrameLaws.{frame_at, frame_in, side-at, side-within, side_in}
 use Rattle.stems.proofs.StemsLaws.{bounce-ranged, counter-below}
+use Rattle.std.specs.Prelude.{Ok}
+use Rattle.refusal.specs.Refusal.{Answer}
 
 -- Numbers cut and then added, and added and then cut.
 
@@ -186,7 +186,7 @@ stem-at p n b k ss l = stems-at p n b 0 k ss l ∙ ap (λ (j : ℕ). rendered p 
 
 -- Seven buffers, lent to a call that is accepted, with a log of bytes.
 
-module _ (p : Player) (n : ℕ) (b : List ℕ) (small : all_at_most 255 b ≡ true) (one two three four five six mix : List ℤ) (accepted : bounce_answer p n b (lent one two three four five six mix) ≡ Accepted) where
+module _ (p : Player) (n : ℕ) (b : List ℕ) (small : all_at_most 255 b ≡ true) (one two three four five six mix : List ℤ) (accepted : bounce_answer p n b (lent one two three four five six mix) ≡ Ok tt) where
   -- what the call leaves in them
   abbrev bounced : Buffers
   bounced = (bounce_of p n b (lent one two three four five six mix)).out
@@ -199,7 +199,7 @@ module _ (p : Player) (n : ℕ) (b : List ℕ) (small : all_at_most 255 b ≡ tr
       (range-facts (framed p b i) (run-on-keeps (writes_in b) p.cycle p.unit (480 * suc i - p.unit.output) (bytes_of b small (count_of b) 0) (bounce-ranged p n b (lent one two three four five six mix) accepted))).voices.six
 
   -- what holds of all that an accepted call leaves holds of them
-  of-accepted : (P : Buffers → Type 0) → P (bounce_by Accepted p n b (lent one two three four five six mix)).out → P bounced
+  of-accepted : (P : Buffers → Type 0) → P (bounce_by (Ok tt) p n b (lent one two three four five six mix)).out → P bounced
   of-accepted P h = subst (λ (a : Answer). P (bounce_by a p n b (lent one two three four five six mix)).out) (sym accepted) h
 
   -- "mix less the sum of stems is, on each side of each frame, a multiple of 32 from 0 to 160"
@@ -219,7 +219,7 @@ module _ (p : Player) (n : ℕ) (b : List ℕ) (small : all_at_most 255 b ≡ tr
     abbrev these : List Voice
     these = (framed p b i).voices
 
-    stem-is : get_or (get_or (bounce_by Accepted p n b (lent one two three four five six mix)).out.stems k []) (place_of s i) (pos 0) ≡ frame_side (heard_on s waves (voice_at k these))
+    stem-is : get_or (get_or (bounce_by (Ok tt) p n b (lent one two three four five six mix)).out.stems k []) (place_of s i) (pos 0) ≡ frame_side (heard_on s waves (voice_at k these))
     unfolding bounce_by
     stem-is =
         let own : List ℤ = get_or (one ∷ two ∷ three ∷ four ∷ five ∷ six ∷ []) k [] in
@@ -227,7 +227,7 @@ module _ (p : Player) (n : ℕ) (b : List ℕ) (small : all_at_most 255 b ≡ tr
         ∙ side-of p n b (all_but k) own below i l s
         ∙ ap frame_side (stem-of (heard_on s waves) (heard-none s waves) these (voices i) k few)
 
-    mix-is : get_or (bounce_by Accepted p n b (lent one two three four five six mix)).out.mix (place_of s i) (pos 0) ≡ frame_side (total (map (heard_on s waves) these))
+    mix-is : get_or (bounce_by (Ok tt) p n b (lent one two three four five six mix)).out.mix (place_of s i) (pos 0) ≡ frame_side (total (map (heard_on s waves) these))
     unfolding bounce_by
     mix-is =
         side-of p n b 0 mix below i l s ∙ ap frame_side (mix-of (heard_on s waves) (heard-none s waves) these (voices i))

@@ -1,16 +1,14 @@
 -- The stem bouncer, in document 02's words: it "renders a span six times, one voice heard each time, into six lent buffers, with the full
 -- mix in a seventh, the present mutes not applied to any of them. Mutes and player come back as given."
-use Rattle.std.specs.Prelude.{ℕ, suc, ◌+◌, ◌-◌, ◌*◌, ◌^◌, ◌≤◌, min, ◌≡◌, Bool, true, not, ◌&&◌, List, [], ◌∷◌, ◌++◌, ltb, ℤ, pos, ◌+ℤ◌, ◌-ℤ◌, drop, get_or, length}
+use Rattle.std.specs.Prelude.{ℕ, suc, ◌+◌, ◌-◌, ◌*◌, ◌^◌, ◌≤◌, min, ◌≡◌, Bool, true, not, ◌&&◌, List, [], ◌∷◌, ◌++◌, ltb, ℤ, pos, ◌+ℤ◌, ◌-ℤ◌, drop, get_or, length, Result, Ok, Err}
 use Rattle.deck.specs.Player.{length_in, standing_answer, writes_in}
 use Rattle.deck.specs.Unbroken.{frames_on, run_on}
 use Rattle.deck.specs.declared.Player.{Player}
-use Rattle.refusal.specs.Refusal.{fault, ◌then◌}
-use Rattle.refusal.specs.declared.Answer.{Answer}
-use Rattle.refusal.specs.declared.Answer.TheVariants.{Accepted, Refused}
+use Rattle.refusal.specs.Refusal.{fault, ◌then◌, Answer}
+use Rattle.refusal.specs.declared.Refusal.{Refusal}
 use Rattle.refusal.specs.declared.Refusal.TheVariants.{BeyondEnd, Room}
 use Rattle.vsu.specs.Core.{fits_in, frames_due, sides, with_mutes}
 use Rattle.vsu.specs.declared.unit.Vsu.{Vsu}
-use Rattle.stems.specs.declared.Bounced.{Bounced}
 
 -- the seven lent buffers: those of channels 0 to 5, and the mix's
 pub record Buffers : Type 0 where
@@ -52,18 +50,24 @@ unfoldable pub stems_from : Player → ℕ → List ℕ → ℕ → List (List �
 stems_from p n b k [] = []
 stems_from p n b k (s ∷ ss) = rendered p n b (all_but k) s ∷ stems_from p n b (suc k) ss
 
+-- the record as it was given, the number of frames, and how the call ended
+pub record Bounced : Type 0 where
+  pub player : Player
+  pub frames : ℕ
+  pub answer : Answer
+
 -- what a call hands back, and what the buffers hold afterwards: refused, "nothing written"
 pub record BounceGives : Type 0 where
   pub bounced : Bounced
   pub out : Buffers
 
 unfoldable pub bounce_by : Answer → Player → ℕ → List ℕ → Buffers → BounceGives
-bounce_by Accepted p n b o =
+bounce_by (Ok done) p n b o =
     record {
-      bounced = record { player = p; frames = frames_due p.unit n; answer = Accepted };
+      bounced = record { player = p; frames = frames_due p.unit n; answer = Ok tt };
       out = record { stems = stems_from p n b 0 o.stems; mix = rendered p n b 0 o.mix };
     }
-bounce_by (Refused why) p n b o = record { bounced = record { player = p; frames = 0; answer = Refused why }; out = o }
+bounce_by (Err why) p n b o = record { bounced = record { player = p; frames = 0; answer = Err why }; out = o }
 
 abbrev pub bounce_of : Player → ℕ → List ℕ → Buffers → BounceGives
 bounce_of p n b o = bounce_by (bounce_answer p n b o) p n b o
@@ -101,10 +105,11 @@ framed p b i = run_on (writes_in b) p.cycle p.unit (480 * suc i - p.unit.output)
 
 -- What the code's inner contracts go by; nothing to believe.
 
-unfoldable pub frames_by : Answer → Player → ℕ → ℕ
-frames_by Accepted p n = frames_due p.unit n
-frames_by (Refused why) p n = 0
+-- the Result of a call that answers with a number of frames
+unfoldable pub frames_by : Answer → ℕ → Result ℕ Refusal
+frames_by (Ok done) frames = Ok frames
+frames_by (Err why) frames = Err why
 
 unfoldable pub rendered_by : Answer → Player → ℕ → List ℕ → ℕ → List ℤ → List ℤ
-rendered_by Accepted p n b mutes out = rendered p n b mutes out
-rendered_by (Refused why) p n b mutes out = out
+rendered_by (Ok done) p n b mutes out = rendered p n b mutes out
+rendered_by (Err why) p n b mutes out = out

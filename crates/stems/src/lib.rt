@@ -2,64 +2,14 @@
 // its contracts.
 #![tactic(auto)]
 
-ghost use Rattle.std.specs.Prelude.{◌≡◌, ◌≤◌, min, length};
-ghost use Rattle.deck.specs.Player.{play_answer};
+ghost use Rattle.std.specs.Prelude.{◌≡◌, ◌≤◌, length};
+ghost use Rattle.deck.specs.Player.{ended, play_answer};
 ghost use Rattle.refusal.specs.Refusal.{Tells};
-ghost use Rattle.stems.specs.Stems.{bounce_answer, bounce_of, frames_by, lent, rendered_by, shortest_of};
+ghost use Rattle.stems.specs.Stems.{bounce_answer, bounce_of, frames_by, rendered_by, shortest_of, lent};
+ghost use Rattle.vsu.specs.Core.{frames_due};
 
-use deck::{Played, Player, Turn};
-use refusal::Answer;
-
-// The record as it was given, the number of frames, and how the call ended.
-#[derive(Clone, Copy)]
-pub struct Bounced {
-    pub player: Player,
-    pub frames: u32,
-    pub answer: Answer,
-}
-
-// One of the seven: the number of its frames, and how its play ended.
-#[derive(Clone, Copy)]
-struct Rendered {
-    frames: u32,
-    answer: Answer,
-}
-
-fn player_of(t: Turn) -> Player
-    ensures { result ≡ t.player }
-{
-    t.player
-}
-
-fn rendering(p: Played) -> Rendered
-    ensures { result ≡ record { frames = p.frames; answer = p.answer } }
-{
-    let answer = p.answer;
-    Rendered {
-        frames: p.frames,
-        answer: answer,
-    }
-}
-
-fn handed_back(p: Player, r: Rendered) -> Bounced
-    ensures { result ≡ record { player = p; frames = r.frames; answer = r.answer } }
-{
-    let answer = r.answer;
-    Bounced {
-        player: p,
-        frames: r.frames,
-        answer: answer,
-    }
-}
-
-fn lesser(a: usize, b: usize) -> usize
-    ensures { result ≡ min a b }
-{
-    if a < b {
-        return a;
-    }
-    b
-}
+use deck::Player;
+use refusal::Refusal;
 
 // The room of the shortest of the seven.
 fn shortest(
@@ -73,27 +23,33 @@ fn shortest(
 ) -> usize
     ensures { result ≡ shortest_of one two three four five six mix }
 {
-    lesser(
-        mix,
-        lesser(
-            one,
-            lesser(two, lesser(three, lesser(four, lesser(five, six)))),
-        ),
-    )
+    mix.min(one.min(two.min(three.min(four.min(five.min(six))))))
 }
 
-// The span with these mutes, in a buffer of which no more than `room` is used: the play is refused exactly where one of the seven is.
-fn render(p: Player, mutes: u32, n: u32, log: &[u8], room: usize, out: &mut [i16]) -> Rendered
+// The span with these mutes, in a buffer of which no more than `room` is used: so all seven are refused alike. Where the record is out of
+// range the mute leaves it, and the play refuses it.
+fn render(
+    p: &Player,
+    mutes: u32,
+    n: u32,
+    log: &[u8],
+    room: usize,
+    out: &mut [i16],
+) -> Result<u32, Refusal>
     requires { (mutes ≤ 63) × (room ≤ length out.old) }
-    ensures { (result ≡ record { frames = frames_by (play_answer p n log.now room) p n; answer = play_answer p n log.now room }) × (out.new ≡ rendered_by (play_answer p n log.now room) p n log.now mutes out.old) }
+    ensures { (result ≡ frames_by (play_answer p.now n log.now room) (frames_due p.now.unit n))
+        × (out.new ≡ rendered_by (play_answer p.now n log.now room) p.now n log.now mutes out.old) }
 {
-    let t = player::mute(p, mutes);
-    rendering(player::play(player_of(t), n, log, &mut out[..room]))
+    let mut q = *p;
+    let _ = player::mute(&mut q, mutes);
+    let played = player::play(&mut q, n, log, &mut out[..room])?;
+    Ok(played.frames)
 }
 
-// Channels 0 to 5 alone in `one` to `six`, all of them in `mix`: 3 to 8, 1, 13, 12, 2.
+// Channels 0 to 5 alone in `one` to `six`, all of them in `mix`: the number of frames, or 3 to 8, 1, 13, 12, 2. Seven buffers: no array of
+// `&mut` can be made yet, and of a struct of them that is lent a contract has to say besides that each is still the caller's own.
 pub fn bounce(
-    p: Player,
+    p: &Player,
     n: u32,
     log: &[u8],
     one: &mut [i16],
@@ -103,8 +59,11 @@ pub fn bounce(
     five: &mut [i16],
     six: &mut [i16],
     mix: &mut [i16],
-) -> Bounced
-    ensures { (result ≡ (bounce_of p n log.now (lent one.old two.old three.old four.old five.old six.old mix.old)).bounced) × (lent one.new two.new three.new four.new five.new six.new mix.new ≡ (bounce_of p n log.now (lent one.old two.old three.old four.old five.old six.old mix.old)).out) × Tells result.answer (bounce_answer p n log.now (lent one.old two.old three.old four.old five.old six.old mix.old)) }
+) -> Result<u32, Refusal>
+    ensures { (result ≡ frames_by (bounce_of p.now n log.now (lent one.old two.old three.old four.old five.old six.old mix.old)).bounced.answer (bounce_of p.now n log.now (lent one.old two.old three.old four.old five.old six.old mix.old)).bounced.frames)
+        × (p.now ≡ (bounce_of p.now n log.now (lent one.old two.old three.old four.old five.old six.old mix.old)).bounced.player)
+        × (lent one.new two.new three.new four.new five.new six.new mix.new ≡ (bounce_of p.now n log.now (lent one.old two.old three.old four.old five.old six.old mix.old)).out)
+        × Tells (ended result) (bounce_answer p.now n log.now (lent one.old two.old three.old four.old five.old six.old mix.old)) }
 {
     let room = shortest(
         one.len(),
@@ -115,11 +74,12 @@ pub fn bounce(
         six.len(),
         mix.len(),
     );
-    render(p, 62, n, log, room, one);
-    render(p, 61, n, log, room, two);
-    render(p, 59, n, log, room, three);
-    render(p, 55, n, log, room, four);
-    render(p, 47, n, log, room, five);
-    render(p, 31, n, log, room, six);
-    handed_back(p, render(p, 0, n, log, room, mix))
+    let frames = render(p, 0, n, log, room, mix)?;
+    render(p, 62, n, log, room, one)?;
+    render(p, 61, n, log, room, two)?;
+    render(p, 59, n, log, room, three)?;
+    render(p, 55, n, log, room, four)?;
+    render(p, 47, n, log, room, five)?;
+    render(p, 31, n, log, room, six)?;
+    Ok(frames)
 }

@@ -1,12 +1,12 @@
-use borrow.Author.Rules.{rules}
-use lib.Seq.{length-take-le}
-use mathlib.Core.Path.{sym}
+use Rattle.std.proofs.lemmas.Result.{err_from_is_err_and}
 use Rattle.stems.proofs.StemsLaws as laws
 use Rattle.stems.proofs.render.Goals as goal
 
-pub slice_bounds-play-end-2 : goal.slice_bounds-play-end-2
-slice_bounds-play-end-2 c = sym (length-take-le _ _ (search rules))
+pub returns-in_err-played : goal.returns-in_err-played
+returns-in_err-played c =
+    let p = err_from_is_err_and c.from_residual.result c.from_residual.ensures.1 in
+    rw (p.1, p.2) (laws.made-none c.args.p.now c.args.n c.args.log.now c.args.mutes c.requires.0 c.args.room c.args.out.now c.requires.1 c.mute.ensures.1 c.play.ensures.0 c.play.ensures.2 c.in_err-played.was)
 
 pub returns : goal.returns
 returns c =
-    laws.made c.args.p c.args.n c.args.log.now c.args.mutes c.requires.0 c.args.room c.args.out.now c.requires.1 c.mute-t.ensures.0 c.player_of.ensures c.play.ensures.0 c.play.ensures.1 c.rendering.ensures
+    laws.made-some c.args.p.now c.args.n c.args.log.now c.args.mutes c.requires.0 c.args.room c.args.out.now c.requires.1 c.mute.ensures.1 c.play.ensures.0 c.play.ensures.2 c.in_ok-played.was

@@ -1,11 +1,8 @@
 use Rattle.player.proofs.WalkLaws as laws
 use Rattle.player.proofs.walk.next_due.Goals as goal
 
-pub returns-then-due-target : goal.returns-then-due-target
-returns-then-due-target c = laws.next_here c.args.log.now c.args.count c.args.applied c.args.target c.if-applied-count.true c.due_at-due.ensures c.if-due-target.true
+pub returns-then-applied-count : goal.returns-then-applied-count
+returns-then-applied-count c = laws.next-least c.args.log.now c.args.count c.args.applied c.args.target c.if-applied-count.true c.due_at.ensures c.min.ensures
 
-pub returns-else-due-target : goal.returns-else-due-target
-returns-else-due-target c = laws.next-far c.args.log.now c.args.count c.args.applied c.args.target c.due_at-due.ensures c.if-due-target.false
-
-pub returns-else-applied-count : goal.returns-else-applied-count
-returns-else-applied-count c = laws.next-ended c.args.log.now c.args.count c.args.applied c.args.target c.if-applied-count.false
+pub returns : goal.returns
+returns c = laws.next-ended c.args.log.now c.args.count c.args.applied c.args.target c.if-applied-count.false

@@ -1,6 +1,6 @@
-use Rattle.vsu.specs.declared.unit.Written.{Written}
+use Rattle.vsu.specs.Core.{Written}
 use mathlib.Core.Path.{ap}
 use Rattle.player.proofs.walk.written.Goals as goal
 
 pub returns : goal.returns
-returns c = ap (λ (m : Written). m.state) c.write-m.ensures.0
+returns c = rw c.from.ensures at (ap (λ (m : Written). m.state) c.write.ensures.0)

@@ -1,5 +1,5 @@
 use Rattle.player.specs.Walk.{counted_by}
-use Rattle.player.proofs.walk.counted.Goals as goal
+use Rattle.player.proofs.walk.count_said.Goals as goal
 
 pub returns-in-Taken : goal.returns-in-Taken
 unfolding counted_by
@@ -12,7 +12,3 @@ returns-in-Held c = rw c.in-Held.is
 pub returns-in-NoRegister : goal.returns-in-NoRegister
 unfolding counted_by
 returns-in-NoRegister c = rw c.in-NoRegister.is
-
-pub returns-in-Refused : goal.returns-in-Refused
-unfolding counted_by
-returns-in-Refused c = rw c.in-Refused.is
