@@ -1,17 +1,18 @@
 // The check of a log, ten thousand times, as bench/check.c makes it.
 ghost use Rattle.std.specs.Prelude.{◌≤◌, length};
 
-use register_log::Checked;
+use refusal::Refusal;
+use register_log::Log;
 use report::print;
 use report::streams::STDIN_FILENO;
 
-fn told(c: Checked) {
+fn told(c: Result<Log, Refusal>) {
     match c {
-        Checked::Log { count, cycles } => print::line(
+        Ok(Log { count, cycles }) => print::line(
             b"entries # cycles #\n",
             &[u64::from(count), u64::from(cycles)],
         ),
-        Checked::Refused(why) => print::line(
+        Err(why) => print::line(
             b"refused # #\n",
             &[
                 u64::from(refusal::number(why)),
@@ -22,10 +23,10 @@ fn told(c: Checked) {
 }
 
 // What a check answers, in one number.
-fn code(c: Checked) -> u32 {
+fn code(c: Result<Log, Refusal>) -> u32 {
     match c {
-        Checked::Log { count, .. } => count,
-        Checked::Refused(why) => refusal::number(why),
+        Ok(Log { count, .. }) => count,
+        Err(why) => refusal::number(why),
     }
 }
 

@@ -11,11 +11,12 @@ ghost use Rattle.std.specs.Prelude.{◌<◌};
 mod adds;
 mod logs;
 
+use refusal::Refusal;
 use report::print;
 use report::streams::STDIN_FILENO;
 use report::sum::of_frames;
 use vsu::unit;
-use vsu::unit::{Ran, Vsu};
+use vsu::unit::Vsu;
 
 // What all timed runs of both engines carry on.
 #[derive(Clone, Copy)]
@@ -25,12 +26,16 @@ struct Timed {
 }
 
 impl Timed {
-    fn run<F: Fn(Vsu, u32, &mut [i16]) -> Ran>(&mut self, engine: &F, n: u32, out: &mut [i16])
+    fn run<F: Fn(&mut Vsu, u32, &mut [i16]) -> Result<u32, Refusal>>(
+        &mut self,
+        engine: &F,
+        n: u32,
+        out: &mut [i16],
+    )
         requires { F.IsAlwaysCallable engine.now }
     {
-        let r = engine(self.unit, n, out);
-        self.unit = r.state;
-        self.sum = of_frames(self.sum, out, r.frames);
+        let frames = engine(&mut self.unit, n, out).unwrap_or(0);
+        self.sum = of_frames(self.sum, out, frames);
     }
 }
 
@@ -58,7 +63,7 @@ fn start() -> [u8; 16] {
 }
 
 fn set(u: &mut Vsu, address: u32, value: u8) {
-    *u = unit::write(*u, address, value).state;
+    let _ = unit::write(u, address, value);
 }
 
 fn waves(u: &mut Vsu) {
@@ -144,11 +149,17 @@ fn ticking() -> Vsu {
 }
 
 fn sought(n: u64) -> Vsu {
-    quick::advance(ready(), (n % 4_294_967_296) as u32).state
+    let mut u = ready();
+    let _ = quick::advance(&mut u, (n % 4_294_967_296) as u32);
+    u
 }
 
 // In parts, for a part's frames have to fit the buffer.
-fn sum_of<F: Fn(Vsu, u32, &mut [i16]) -> Ran>(engine: F, unit: Vsu, n: u64) -> u32
+fn sum_of<F: Fn(&mut Vsu, u32, &mut [i16]) -> Result<u32, Refusal>>(
+    engine: F,
+    unit: Vsu,
+    n: u64,
+) -> u32
     requires { F.IsAlwaysCallable engine }
 {
     let mut out = [0i16; 16384];

@@ -5,26 +5,28 @@ mod output;
 mod spans;
 
 use refusal::Refusal;
-use register_log::Checked;
+use register_log::Log;
+use report::out::Unwritten;
 use report::streams::STDOUT_FILENO;
 use report::terminal::Terminals;
 use report::{input, out, print, terminal};
 
-fn refused(why: Refusal) -> bool {
+fn refused(why: Refusal) -> Result<(), Unwritten> {
     out::refused(STDOUT_FILENO, why)
 }
 
-fn list(log: &[u8], terminals: Terminals) -> bool {
+fn list(log: &[u8], terminals: Terminals) -> Result<(), Unwritten> {
     let c = register_log::check_log(log);
     match c {
-        Checked::Log { count, cycles } => {
-            output::heading(log, count, cycles) && spans::list(log, cycles, terminals)
+        Ok(Log { count, cycles }) => {
+            output::heading(log, count, cycles)?;
+            spans::list(log, cycles, terminals)
         }
-        Checked::Refused(why) => refused(why),
+        Err(why) => refused(why),
     }
 }
 
-fn listed(terminals: Terminals) -> bool {
+fn listed(terminals: Terminals) -> Result<(), Unwritten> {
     let mut space = [0u8; 65537];
     match input::whole(&mut space) {
         Ok(log) => list(log, terminals),
@@ -34,7 +36,7 @@ fn listed(terminals: Terminals) -> bool {
 
 fn main(rt: HostRuntime) {
     let terminals = terminal::asked(rt.stdout(), rt.stderr());
-    if !listed(terminals) {
+    if listed(terminals).is_err() {
         print::unwritten(b"bouncer", terminals);
     }
 }

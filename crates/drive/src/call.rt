@@ -16,32 +16,15 @@ pub(crate) enum Call {
     Unknown,
 }
 
-// A call with a slot.
-fn marking(line: &[u8]) -> Call {
-    if let Some(slot) = behind(line, b"set ") {
-        return Call::Set(slot);
-    }
-    if let Some(slot) = behind(line, b"clear ") {
-        return Call::Clear(slot);
-    }
-    if let Some(slot) = behind(line, b"goto ") {
-        return Call::GoTo(slot);
-    }
-    Call::Unknown
-}
-
-// A call with a cycle, a number of cycles or mute bits, else one with a slot.
-fn moving(line: &[u8]) -> Call {
-    if let Some(cycles) = behind(line, b"play ") {
-        return Call::Play(cycles);
-    }
-    if let Some(target) = behind(line, b"seek ") {
-        return Call::Seek(target);
-    }
-    if let Some(bits) = behind(line, b"mute ") {
-        return Call::Mute(bits);
-    }
-    marking(line)
+// A call with a number: a cycle, a number of cycles, mute bits or a slot.
+fn numbered(line: &[u8]) -> Option<Call> {
+    behind(line, b"play ")
+        .map(Call::Play)
+        .or_else(|| behind(line, b"seek ").map(Call::Seek))
+        .or_else(|| behind(line, b"mute ").map(Call::Mute))
+        .or_else(|| behind(line, b"set ").map(Call::Set))
+        .or_else(|| behind(line, b"clear ").map(Call::Clear))
+        .or_else(|| behind(line, b"goto ").map(Call::GoTo))
 }
 
 pub(crate) fn call_of(line: &[u8]) -> Call {
@@ -54,5 +37,5 @@ pub(crate) fn call_of(line: &[u8]) -> Call {
     if same(line, b"memory") {
         return Call::Memory;
     }
-    moving(line)
+    numbered(line).unwrap_or(Call::Unknown)
 }

@@ -9,10 +9,10 @@ mod output;
 
 ghost use Rattle.std.specs.Prelude.{◌≤◌, IfSome, length};
 
+use crate::output::Line;
 use refusal::Refusal;
-use register_log::Checked;
+use register_log::Log;
 use report::streams::STDERR_FILENO;
-use report::text;
 use std::env::FillError;
 use std::fs::File;
 use std::io::{Error, ErrorKind, Read, Result, Stdin, Stdout};
@@ -36,28 +36,28 @@ fn read_all(mut file: File, space: &mut [u8]) -> Result<&[u8]> {
 }
 
 fn refused(to: Stdout, why: Refusal) {
-    let mut text = [0u8; 64];
-    let a = text::refused(&mut text, 0, why);
-    let end = text::words(&mut text, a, b"\n");
-    output::put(to, &text, end);
+    let mut line = Line::new();
+    line.refused(why);
+    line.words(b"\n");
+    output::put(to, &line);
 }
 
 fn opened(to: Stdout, count: u32, cycles: u32) {
-    let mut text = [0u8; 64];
-    let a = output::labelled(&mut text, 0, b"open entries ", count);
-    let b = output::labelled(&mut text, a, b" cycles ", cycles);
-    let end = text::words(&mut text, b, b"\n");
-    output::put(to, &text, end);
+    let mut line = Line::new();
+    output::labelled(&mut line, b"open entries ", count);
+    output::labelled(&mut line, b" cycles ", cycles);
+    line.words(b"\n");
+    output::put(to, &line);
 }
 
 fn drive(from: Stdin, to: Stdout, log: &[u8]) {
     let c = register_log::check_log(log);
     match c {
-        Checked::Log { count, cycles } => {
+        Ok(Log { count, cycles }) => {
             opened(to, count, cycles);
             console::run(from, to, log);
         }
-        Checked::Refused(why) => refused(to, why),
+        Err(why) => refused(to, why),
     }
 }
 

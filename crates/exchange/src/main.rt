@@ -10,7 +10,7 @@ mod worked;
 use report::streams::STDERR_FILENO;
 
 fn main(rt: HostRuntime) {
-    if !console::run(rt.stdin()) {
+    if console::run(rt.stdin()).is_err() {
         io::write_all(
             STDERR_FILENO,
             b"exchange: standard output can't be written\n",

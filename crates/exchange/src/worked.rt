@@ -11,16 +11,16 @@ pub(crate) struct Difference {
     pub(crate) exchanged: u8,
 }
 
-// A byte to an address, 0x80 to `start`, and then the pair. The one function over a unit, and without a loop: such functions are what costs
-// the prover most.
+// A byte to an address, 0x80 to `start`, and then the pair; of a unit in range, as all from power-on on are, no call is refused. The one
+// function over a unit, and without a loop: such functions are what costs the prover most.
 fn image_after(address: u32, byte: u8, start: u32, p: Pair) -> [u8; 420] {
-    let on = unit::new();
-    let a = unit::write(on, address, byte);
-    let b = unit::write(a.state, start, 0x80);
-    let c = unit::write(b.state, p.address, p.byte);
-    let d = unit::write(c.state, p.other, p.value);
+    let mut u = unit::new();
+    let _ = unit::write(&mut u, address, byte);
+    let _ = unit::write(&mut u, start, 0x80);
+    let _ = unit::write(&mut u, p.address, p.byte);
+    let _ = unit::write(&mut u, p.other, p.value);
     let mut image = [0u8; 420];
-    image::write_image(d.state, &mut image);
+    let _ = image::write_image(u, &mut image);
     image
 }
 

@@ -1,25 +1,32 @@
 // Runs document 01's "Run by program" figures and the refusals of the unit's calls, and prints what each gave.
 #![tactic(auto)]
 
-use refusal::Answer;
+use refusal::Refusal;
 use report::print;
 use report::sum::side;
 use voice::channel_enum::Kind;
 use vsu::unit;
 use vsu::unit::Vsu;
 
-fn set(u: Vsu, address: u32, value: u8) -> Vsu {
-    unit::write(u, address, value).state
+// No call of the figures is refused, from power-on on.
+
+fn set(u: &mut Vsu, address: u32, value: u8) {
+    let _ = unit::write(u, address, value);
 }
 
-fn after(u: Vsu, n: u32) -> Vsu {
-    unit::advance(u, n).state
+fn after(mut u: Vsu, n: u32) -> Vsu {
+    let _ = unit::advance(&mut u, n);
+    u
+}
+
+fn frames_of(u: &mut Vsu, n: u32, out: &mut [i16]) -> u32 {
+    unit::run(u, n, out).unwrap_or(0)
 }
 
 fn frames(n: u32) {
     let mut out = [0i16; 4];
-    let r = unit::run(unit::new(), n, &mut out);
-    print::line(b"# cycles # frames\n", &[u64::from(n), u64::from(r.frames)]);
+    let made = frames_of(&mut unit::new(), n, &mut out);
+    print::line(b"# cycles # frames\n", &[u64::from(n), u64::from(made)]);
 }
 
 // Channel 1's position.
@@ -31,7 +38,8 @@ fn position(u: Vsu) -> u8 {
 }
 
 fn moves(before: u32, then: u32) {
-    let u = set(unit::new(), 0x400, 0x80);
+    let mut u = unit::new();
+    set(&mut u, 0x400, 0x80);
     print::line(
         b"frequency #: position # after # cycles, # after #\n",
         &[
@@ -54,7 +62,8 @@ fn plays(u: Vsu) {
 }
 
 fn stops(what: &[u8], value: u8, before: u32, then: u32) {
-    let u = set(unit::new(), 0x400, value);
+    let mut u = unit::new();
+    set(&mut u, 0x400, value);
     print::line(what, &[]);
     plays(after(u, before));
     print::line(b" after # cycles, ", &[u64::from(before)]);
@@ -71,7 +80,9 @@ fn current(u: Vsu) -> u16 {
 }
 
 fn acts(before: u32, then: u32) {
-    let u = set(set(unit::new(), 0x508, 0x55), 0x50C, 0x05);
+    let mut u = unit::new();
+    set(&mut u, 0x508, 0x55);
+    set(&mut u, 0x50C, 0x05);
     print::line(
         b"channel 5 frequency: written #, current # after # cycles, # after #\n",
         &[
@@ -88,7 +99,7 @@ fn acts(before: u32, then: u32) {
 fn own_log() -> Vsu {
     let mut u = unit::new();
     for (address, value) in [(0x000, 0x3F), (0x404, 0xF0), (0x410, 0xF0), (0x400, 0x80)] {
-        u = set(u, address, value);
+        set(&mut u, address, value);
     }
     u
 }
@@ -96,19 +107,17 @@ fn own_log() -> Vsu {
 // Its frames from one run.
 fn whole(n: u32) {
     let mut out = [0i16; 4];
-    let r = unit::run(own_log(), n, &mut out);
+    let made = frames_of(&mut own_log(), n, &mut out);
     print::line(
         b"own log: # cycles # frames\n",
-        &[u64::from(n), u64::from(r.frames)],
+        &[u64::from(n), u64::from(made)],
     );
 }
 
 // One cycle, and its frame if it made one.
 fn one(u: &mut Vsu, cycle: u32) {
     let mut out = [0i16; 2];
-    let r = unit::run(*u, 1, &mut out);
-    *u = r.state;
-    if r.frames == 1 {
+    if frames_of(u, 1, &mut out) == 1 {
         let [left, right] = out;
         print::line(
             b"# # #\n",
@@ -129,10 +138,10 @@ fn cycles(n: u32) {
     }
 }
 
-fn answer(a: Answer) {
+fn answer(a: Result<(), Refusal>) {
     match a {
-        Answer::Accepted => print::line(b"accepted", &[]),
-        Answer::Refused(why) => print::line(
+        Ok(()) => print::line(b"accepted", &[]),
+        Err(why) => print::line(
             b"refused # #",
             &[
                 u64::from(refusal::number(why)),
@@ -158,43 +167,42 @@ fn beyond() -> Vsu {
     }
 }
 
-fn told(what: &[u8], a: Answer, output: u32) {
+fn told(what: &[u8], a: Result<(), Refusal>, output: u32) {
     print::line(what, &[]);
     answer(a);
     print::line(b", output #", &[u64::from(output)]);
 }
 
 fn run_beyond(out: &mut [i16]) {
-    let r = unit::run(beyond(), 480, out);
-    told(b"run of output 480: ", r.answer, r.state.output);
+    let mut u = beyond();
+    let ran = unit::run(&mut u, 480, out).map(|_| ());
+    told(b"run of output 480: ", ran, u.output);
     buffer(out);
 }
 
 fn write_beyond() {
-    let m = unit::write(beyond(), 0x580, 1);
-    told(
-        b"write to output 480: ",
-        unit::answer_in(m.said),
-        m.state.output,
-    );
+    let mut u = beyond();
+    let said = unit::write(&mut u, 0x580, 1).map(|_| ());
+    told(b"write to output 480: ", said, u.output);
     print::line(b"\n", &[]);
 }
 
 fn advance_beyond() {
-    let m = unit::advance(beyond(), 480);
-    told(b"advance of output 480: ", m.answer, m.state.output);
+    let mut u = beyond();
+    let moved = unit::advance(&mut u, 480);
+    told(b"advance of output 480: ", moved, u.output);
     print::line(b"\n", &[]);
 }
 
 // A run from power-on into the room that `out` is.
 fn room(n: u32, out: &mut [i16]) {
-    let r = unit::run(unit::new(), n, out);
+    let ran = unit::run(&mut unit::new(), n, out);
     print::line(
         b"# cycles into # sides: ",
         &[u64::from(n), out.len() as u64],
     );
-    answer(r.answer);
-    print::line(b", # frames", &[u64::from(r.frames)]);
+    answer(ran.map(|_| ()));
+    print::line(b", # frames", &[u64::from(ran.unwrap_or(0))]);
     buffer(out);
 }
 

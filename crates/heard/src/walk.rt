@@ -1,6 +1,8 @@
 // The unit led through a log by its writes and the quick engine, and what it says of each write.
 use crate::output;
+use refusal::Refusal;
 use register_log::Write;
+use report::out::Unwritten;
 use report::terminal::Terminals;
 use report::work::Work;
 use vsu::unit;
@@ -18,12 +20,12 @@ struct Tally {
 }
 
 impl Tally {
-    // One entry more; whether what is to be told of it is written. The unit's state is in range from power-on on, so that no write is refused.
-    fn count(&mut self, index: u32, w: Write, said: Said) -> bool {
+    // One entry more, and what is to be told of it.
+    fn count(&mut self, index: u32, w: Write, said: Said) -> Result<(), Unwritten> {
         match said {
             Said::Taken => {
                 self.taken = self.taken.wrapping_add(1);
-                true
+                Ok(())
             }
             Said::Held => {
                 self.held = self.held.wrapping_add(1);
@@ -33,11 +35,11 @@ impl Tally {
                 self.none = self.none.wrapping_add(1);
                 output::entry(index, w, b" none\n")
             }
-            Said::Refused(_) => true,
         }
     }
 }
 
+// The unit's state is in range from power-on on, so that no call of it is refused.
 #[derive(Clone, Copy)]
 struct Walk {
     unit: Vsu,
@@ -50,22 +52,24 @@ impl Walk {
     fn reach(&mut self, due: u32) {
         while self.cycle < due {
             let n = PIECE.min(due - self.cycle);
-            let m = quick::advance(self.unit, n);
-            self.unit = m.state;
+            let _ = quick::advance(&mut self.unit, n);
             self.cycle += n;
             self.work.tell(self.cycle);
         }
     }
 
-    fn write(&mut self, w: Write) -> Said {
-        let m = unit::write(self.unit, u32::from(w.address), w.byte);
-        self.unit = m.state;
-        m.said
+    fn write(&mut self, w: Write) -> Result<Said, Refusal> {
+        unit::write(&mut self.unit, u32::from(w.address), w.byte)
     }
 }
 
-// Whether all is written. Behind the last entry there is nothing to hear.
-pub(crate) fn through(log: &[u8], count: u32, cycles: u32, terminals: Terminals) -> bool {
+// Behind the last entry there is nothing to hear.
+pub(crate) fn through(
+    log: &[u8],
+    count: u32,
+    cycles: u32,
+    terminals: Terminals,
+) -> Result<(), Unwritten> {
     let mut tally = Tally::default();
     let mut walk = Walk {
         unit: unit::new(),
@@ -75,9 +79,8 @@ pub(crate) fn through(log: &[u8], count: u32, cycles: u32, terminals: Terminals)
     for i in 0..count {
         let w = register_log::write_at(log, i);
         walk.reach(w.due);
-        let said = walk.write(w);
-        if !tally.count(i, w, said) {
-            return false;
+        if let Ok(said) = walk.write(w) {
+            tally.count(i, w, said)?;
         }
     }
     walk.work.tell(cycles);

@@ -22,17 +22,16 @@ impl Sorts {
 // this is told as half of what is to be done.
 pub(crate) fn of_log(log: &[u8], count: u32, work: &mut Work) -> Sorts {
     let mut sides = [0i16; 2048];
-    let t = player::open(log);
-    let mut p = t.player;
+    let mut p = player::open(log).player;
     let mut s = Sorts::default();
     for _ in 0..=work.all / SPAN {
         if p.applied >= count {
             break;
         }
         let left = work.all.saturating_sub(p.cycle);
-        let r = player::play(p, left.min(SPAN), log, &mut sides);
-        p = r.player;
-        s.add(r.counts);
+        if let Ok(played) = player::play(&mut p, left.min(SPAN), log, &mut sides) {
+            s.add(played.counts);
+        }
         work.tell(p.cycle / 2);
     }
     s

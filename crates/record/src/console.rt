@@ -2,29 +2,26 @@
 use crate::call::Call;
 use crate::{call, output};
 use lines::reader::Reader;
-use recorder::{Recorder, Turn};
-use refusal::Answer;
+use recorder::Recorder;
+use refusal::Refusal;
 use std::io::Stdin;
 
 // A line that is no call leaves the record.
-fn turned(r: Recorder, call: Call, buffer: &mut [u8]) -> Turn {
+fn done(r: &mut Recorder, call: Call, buffer: &mut [u8]) -> Result<(), Refusal> {
     match call {
         Call::Add {
             cycle,
             address,
             byte,
         } => recorder::add(r, cycle, address, byte, buffer),
-        Call::Finish(cycles) => recorder::finish(r, cycles, buffer),
-        Call::Nothing | Call::Unknown => Turn {
-            recorder: r,
-            answer: Answer::Accepted,
-        },
+        Call::Finish(cycles) => recorder::finish(*r, cycles, buffer),
+        Call::Nothing | Call::Unknown => Ok(()),
     }
 }
 
 // Says what is to be said of line k. The answer is whether it finished a log.
-fn told(k: u64, call: Call, t: Turn) -> bool {
-    if let Answer::Refused(why) = t.answer {
+fn told(k: u64, call: Call, a: Result<(), Refusal>) -> bool {
+    if let Err(why) = a {
         output::refused(k, why);
         return false;
     }
@@ -34,16 +31,11 @@ fn told(k: u64, call: Call, t: Turn) -> bool {
     matches!(call, Call::Finish(_))
 }
 
-fn started(buffer: &mut [u8]) -> Recorder {
-    let t = recorder::start(buffer);
-    t.recorder
-}
-
 // Up to the first accepted finish. Nothing says that the input ends; no run has as many lines as are counted here.
 pub(crate) fn run(from: Stdin, buffer: &mut [u8]) {
     let mut reader = Reader::new(from);
     let mut line = [0u8; 37];
-    let mut r = started(buffer);
+    let mut r = recorder::start(buffer).recorder;
     for k in 0..u64::MAX {
         let kept = match reader.next_line(&mut line) {
             Ok(Some(kept)) => kept,
@@ -54,9 +46,8 @@ pub(crate) fn run(from: Stdin, buffer: &mut [u8]) {
             }
         };
         let call = call::call_in(&line[..kept]);
-        let t = turned(r, call, buffer);
-        r = t.recorder;
-        if told(k + 1, call, t) {
+        let a = done(&mut r, call, buffer);
+        if told(k + 1, call, a) {
             output::log(buffer, recorder::size(r));
             return;
         }

@@ -1,7 +1,8 @@
 // The player's calls.
 use crate::damage::Given;
-use deck::{Played, Player, Turn};
-use player::{clear_mark, go_to, mute, open, play, seek, set_free, set_mark, unplayed};
+use deck::{Played, Player};
+use player::{clear_mark, go_to, mute, open, play, seek, set_free, set_mark};
+use refusal::Refusal;
 
 // An enum and no closures: a row of the damages tells which calls it is for, and a call's name is printed.
 #[derive(Clone, Copy, PartialEq, Eq)]
@@ -30,25 +31,29 @@ impl Call {
         }
     }
 
-    // The cycles to play are counted from 2,000, also where a record is damaged.
+    // What was played, if it was a play. The cycles to play are counted from 2,000, also where a record is damaged.
     pub(crate) fn make(
         self,
-        p: Player,
+        p: &mut Player,
         g: Given,
         log: &[u8],
         memory: &mut [u8],
         out: &mut [i16],
-    ) -> Played {
-        let t = match self {
-            Call::Play => return play(p, g.end.wrapping_sub(2000), log, out),
-            Call::Open => open(log),
-            Call::Seek => seek(p, g.end, log),
-            Call::SetMark => set_mark(p, g.slot, log, memory),
-            Call::SetFree => set_free(p, log, memory),
-            Call::ClearMark => clear_mark(p, g.slot),
-            Call::GoTo => go_to(p, g.slot, log, memory),
-            Call::Mute => mute(p, g.bits),
-        };
-        unplayed(t.player, t.answer)
+    ) -> Result<Option<Played>, Refusal> {
+        match self {
+            Call::Play => return play(p, g.end.wrapping_sub(2000), log, out).map(Some),
+            Call::Open => {
+                let opened = open(log);
+                *p = opened.player;
+                opened.answer?;
+            }
+            Call::Seek => seek(p, g.end, log)?,
+            Call::SetMark => set_mark(p, g.slot, log, memory)?,
+            Call::SetFree => set_free(p, log, memory)?,
+            Call::ClearMark => clear_mark(p, g.slot)?,
+            Call::GoTo => go_to(p, g.slot, log, memory)?,
+            Call::Mute => mute(p, g.bits)?,
+        }
+        Ok(None)
     }
 }

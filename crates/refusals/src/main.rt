@@ -14,7 +14,7 @@ use crate::trial::{Seen, tried};
 use deck::MEMORY_SIZE;
 use little::Width;
 use player::{lowest_free, marks_set};
-use refusal::{Answer, Refusal};
+use refusal::Refusal;
 use report::print;
 
 // The call and what it was given.
@@ -32,17 +32,10 @@ fn numbers(why: Refusal) -> [u64; 2] {
     ]
 }
 
-fn told(a: Answer) {
+fn told(a: Result<(), Refusal>) {
     match a {
-        Answer::Accepted => print::line(b": accepted", &[]),
-        Answer::Refused(why) => print::line(b": refused # #", &numbers(why)),
-    }
-}
-
-fn is_refused_for(a: Answer, expected: Refusal) -> bool {
-    match a {
-        Answer::Accepted => false,
-        Answer::Refused(why) => numbers(why) == numbers(expected),
+        Ok(()) => print::line(b": accepted", &[]),
+        Err(why) => print::line(b": refused # #", &numbers(why)),
     }
 }
 
@@ -53,7 +46,7 @@ fn verdict(s: Seen, expected: Refusal) {
     } else {
         print::line(b" CHANGED", &[]);
     }
-    if is_refused_for(s.answer, expected) {
+    if s.answer == Err(expected) {
         print::line(b" ok\n", &[]);
     } else {
         print::line(b" WRONG\n", &[]);
@@ -104,8 +97,8 @@ fn line(c: Call, what: &[u8], g: Given, damages: &[Damage]) {
             u64::from(s.frames),
             u64::from(s.player.cycle),
             u64::from(s.player.applied),
-            u64::from(marks_set(s.player)),
-            u64::from(lowest_free(s.player)),
+            u64::from(marks_set(&s.player)),
+            u64::from(lowest_free(&s.player)),
             u64::from(s.player.unit.mutes),
         ],
     );

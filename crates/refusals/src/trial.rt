@@ -1,18 +1,18 @@
 // One call, and whether it left everything as before.
 use crate::call::Call;
 use crate::damage::{Damage, Given, damage_bytes};
-use deck::Player;
+use deck::{Counts, Player};
 use image::write_image;
 use little::Width;
 use player::{seek, set_mark};
-use refusal::Answer;
+use refusal::Refusal;
 use vsu::unit;
 
 // What came of a call: its answer, the frames, the record, and whether the record and every lent byte are as before and no frame is
 // counted.
 #[derive(Clone, Copy)]
 pub(crate) struct Seen {
-    pub(crate) answer: Answer,
+    pub(crate) answer: Result<(), Refusal>,
     pub(crate) frames: u32,
     pub(crate) player: Player,
     pub(crate) kept: bool,
@@ -52,7 +52,9 @@ fn silent(cycle: u32, applied: u32) -> Player {
 
 // The record that a call is given: the unit at cycle 2,000, and the numbers.
 fn record(g: Given) -> Player {
-    let mut unit = seek(silent(0, 0), 2000, &own_log()).player.unit;
+    let mut p = silent(0, 0);
+    let _ = seek(&mut p, 2000, &own_log());
+    let mut unit = p.unit;
     unit.output = g.output;
     unit.mutes = g.mutes;
     Player {
@@ -75,7 +77,7 @@ fn laid(p: Player) -> [u8; 435] {
     little::put(&mut out, 434, Width::U8, u32::from(u.mutes));
     u.output = 0;
     u.mutes = 0;
-    write_image(u, &mut out);
+    let _ = write_image(u, &mut out);
     out
 }
 
@@ -88,14 +90,19 @@ fn handed_back(c: Call, given: Player) -> Player {
 }
 
 fn called(c: Call, g: Given, log: &[u8], memory: &mut [u8], out: &mut [i16]) -> Seen {
-    let p = record(g);
-    let r = c.make(p, g, log, memory, out);
-    let counted = r.counts.taken != 0 || r.counts.held != 0 || r.counts.none != 0;
+    let given = record(g);
+    let mut player = given;
+    let made = c.make(&mut player, g, log, memory, out);
+    let (frames, counts) = match made {
+        Ok(Some(played)) => (played.frames, played.counts),
+        _ => (0, Counts::default()),
+    };
+    let counted = counts.taken != 0 || counts.held != 0 || counts.none != 0;
     Seen {
-        answer: r.answer,
-        frames: r.frames,
-        player: r.player,
-        kept: laid(handed_back(c, p)) == laid(r.player) && r.frames == 0 && !counted,
+        answer: made.map(|_| ()),
+        frames,
+        player,
+        kept: laid(handed_back(c, given)) == laid(player) && frames == 0 && !counted,
     }
 }
 
@@ -114,7 +121,7 @@ pub(crate) fn tried(c: Call, given: Given, damages: &[Damage]) -> Seen {
     let mut log = own_log();
     let mut memory = [7u8; 6849];
     let mut out = [7i16; 12];
-    set_mark(silent(4800, 6), 3, &log, &mut memory);
+    let _ = set_mark(&mut silent(4800, 6), 3, &log, &mut memory);
     for &d in damages {
         damage_bytes(&mut log, &mut memory, d);
         g.damage(d);

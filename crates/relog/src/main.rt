@@ -3,9 +3,9 @@
 #![tactic(auto)]
 
 use refusal::Refusal;
-use register_log::{Checked, Counted, Read};
+use register_log::{Log, Write};
+use report::input::{exactly, fill};
 use report::print;
-use report::streams::STDIN_FILENO;
 
 // An answer as the stream has it.
 type Numbers = [u32; 4];
@@ -32,20 +32,6 @@ struct Replay {
     op: u64,
 }
 
-// The next bytes of the stream, as many as there is room for.
-fn fill(out: &mut [u8]) -> Result<(), End> {
-    if io::read_full(STDIN_FILENO, out) < out.len() {
-        return Err(End::CutShort);
-    }
-    Ok(())
-}
-
-fn exactly<const N: usize>() -> Result<[u8; N], End> {
-    let mut b = [0u8; N];
-    fill(&mut b)?;
-    Ok(b)
-}
-
 // A number past the end is 0, as the fourth of a D.
 fn numbers(b: &[u8]) -> Numbers {
     [0, 4, 8, 12].map(|at| little::u32_at(b, at))
@@ -55,25 +41,25 @@ fn refused(why: Refusal) -> Numbers {
     [2, refusal::number(why), refusal::carried(why), 0]
 }
 
-fn check_answer(c: Checked) -> Numbers {
+fn check_answer(c: Result<Log, Refusal>) -> Numbers {
     match c {
-        Checked::Log { count, cycles } => [0, 0, count, cycles],
-        Checked::Refused(why) => [refusal::number(why), refusal::carried(why), 0, 0],
+        Ok(Log { count, cycles }) => [0, 0, count, cycles],
+        Err(why) => [refusal::number(why), refusal::carried(why), 0, 0],
     }
 }
 
-fn entry_answer(e: Read) -> Numbers {
+fn entry_answer(e: Result<Option<Write>, Refusal>) -> Numbers {
     match e {
-        Read::Write(w) => [0, w.due, u32::from(w.address), u32::from(w.byte)],
-        Read::Ended => [1, 0, 0, 0],
-        Read::Refused(why) => refused(why),
+        Ok(Some(w)) => [0, w.due, u32::from(w.address), u32::from(w.byte)],
+        Ok(None) => [1, 0, 0, 0],
+        Err(why) => refused(why),
     }
 }
 
-fn due_answer(c: Counted) -> Numbers {
+fn due_answer(c: Result<u32, Refusal>) -> Numbers {
     match c {
-        Counted::Number(n) => [0, n, 0, 0],
-        Counted::Refused(why) => refused(why),
+        Ok(n) => [0, n, 0, 0],
+        Err(why) => refused(why),
     }
 }
 
@@ -85,7 +71,7 @@ fn only(log: &[u8], count: u32, cycle: u32, n: u32) -> bool {
 }
 
 fn decided(log: &[u8], cycle: u32, n: u32) -> Result<(), End> {
-    if let Checked::Log { count, .. } = register_log::check_log(log) {
+    if let Ok(Log { count, .. }) = register_log::check_log(log) {
         if !only(log, count, cycle, n) {
             return Err(End::Broken(b"D is decided otherwise by two reads"));
         }
@@ -108,14 +94,14 @@ impl Replay {
 
     // The answer of a log comes behind its bytes.
     fn check(&mut self, space: &mut [u8]) -> Result<(), End> {
-        let size = little::u32_at(&exactly::<4>()?, 0) as usize;
+        let size = little::u32_at(&exactly::<4>().ok_or(End::CutShort)?, 0) as usize;
         let Some(log) = space.get_mut(..size) else {
             return Err(End::Broken(b"G is too long"));
         };
-        fill(log)?;
+        fill(log).ok_or(End::CutShort)?;
         self.size = size;
         self.logs = self.logs.wrapping_add(1);
-        let b = exactly::<16>()?;
+        let b = exactly::<16>().ok_or(End::CutShort)?;
         self.compare(
             b"G",
             numbers(&b),
@@ -124,35 +110,30 @@ impl Replay {
     }
 
     fn entry(&mut self, log: &[u8]) -> Result<(), End> {
-        let b = exactly::<20>()?;
+        let b = exactly::<20>().ok_or(End::CutShort)?;
         let e = register_log::entry(log, little::u32_at(&b, 0));
         self.compare(b"I", numbers(&b[4..]), entry_answer(e))
     }
 
     fn due(&mut self, log: &[u8]) -> Result<(), End> {
-        let b = exactly::<16>()?;
+        let b = exactly::<16>().ok_or(End::CutShort)?;
         let cycle = little::u32_at(&b, 0);
         let c = register_log::due_before(log, cycle);
         self.compare(b"D", numbers(&b[4..]), due_answer(c))?;
         decided(log, cycle, little::u32_at(&b, 8))
     }
 
-    // A question about the present log.
-    fn ask(&mut self, letter: u8, space: &[u8]) -> Result<(), End> {
-        let Some(log) = space.get(..self.size) else {
-            return Err(End::Broken(b"no log"));
-        };
-        if letter == b'I' {
-            return self.entry(log);
-        }
-        self.due(log)
+    // The present log.
+    fn log<'s>(&self, space: &'s [u8]) -> Result<&'s [u8], End> {
+        space.get(..self.size).ok_or(End::Broken(b"no log"))
     }
 
     fn next(&mut self, space: &mut [u8]) -> Result<(), End> {
-        let [letter] = exactly::<1>()?;
+        let [letter] = exactly::<1>().ok_or(End::CutShort)?;
         match letter {
             b'G' => self.check(space)?,
-            b'I' | b'D' => self.ask(letter, space)?,
+            b'I' => self.entry(self.log(space)?)?,
+            b'D' => self.due(self.log(space)?)?,
             b'E' => return Err(End::Agreed),
             _ => return Err(End::Broken(b"is no op")),
         }

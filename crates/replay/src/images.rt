@@ -1,7 +1,8 @@
 // The ops on images: the present state's, with and without a byte set, and any bytes read as one.
-use crate::stream::{End, accepted, exactly, fill, same, same_in};
+use crate::stream::{End, accepted, same, same_in};
 use image::{read_image, write_image};
-use refusal::Answer;
+use refusal::Refusal;
+use report::input::{exactly, fill};
 use report::sum::of_bytes;
 use vsu::unit;
 use vsu::unit::Vsu;
@@ -15,13 +16,13 @@ struct Numbers {
 }
 
 impl Numbers {
-    fn of(a: Answer) -> Numbers {
+    fn of(a: Result<(), Refusal>) -> Numbers {
         match a {
-            Answer::Accepted => Numbers {
+            Ok(()) => Numbers {
                 number: 0,
                 carried: 0,
             },
-            Answer::Refused(why) => Numbers {
+            Err(why) => Numbers {
                 number: refusal::number(why),
                 carried: refusal::carried(why),
             },
@@ -54,18 +55,19 @@ fn held(what: &'static [u8], which: &'static [u8], expected: &[u8], got: &[u8]) 
 }
 
 fn state(image: &[u8]) -> Result<(), End> {
-    let b = exactly::<4>()?;
+    let b = exactly::<4>().ok_or(End::CutShort)?;
     same(b"S sum", little::u32_at(&b, 0), of_bytes(image))
 }
 
 fn whole(image: &[u8]) -> Result<(), End> {
-    held(b"I", b"image", &exactly::<420>()?, image)
+    let b = exactly::<420>().ok_or(End::CutShort)?;
+    held(b"I", b"image", &b, image)
 }
 
 // "a refused image the power-on state"
 fn handed_back(what: &'static [u8], image: &[u8]) -> Result<(), End> {
     let mut b = [0u8; 420];
-    write_image(unit::new(), &mut b);
+    let _ = write_image(unit::new(), &mut b);
     held(what, b"handed back", &b, image)
 }
 
@@ -83,16 +85,16 @@ fn read(what: &'static [u8], bytes: &[u8], expected: Numbers) -> Result<(), End>
     same_in(what, b"number", expected.number, got.number)?;
     same_in(what, b"carried", expected.carried, got.carried)?;
     let mut image = [0u8; 420];
-    write_image(m.state, &mut image);
+    let _ = write_image(m.state, &mut image);
     match m.answer {
-        Answer::Accepted => again(what, bytes, &mut image),
-        Answer::Refused(_) => handed_back(what, &image),
+        Ok(()) => again(what, bytes, &mut image),
+        Err(_) => handed_back(what, &image),
     }
 }
 
 // The image with a byte set.
 fn byte(image: &mut [u8]) -> Result<(), End> {
-    let b = exactly::<6>()?;
+    let b = exactly::<6>().ok_or(End::CutShort)?;
     let Some(place) = image.get_mut(usize::from(little::u16_at(&b, 0))) else {
         return Err(End::Broken(b"B is past the end"));
     };
@@ -112,12 +114,12 @@ pub(crate) fn asked(u: Vsu, letter: u8) -> Result<(), End> {
 }
 
 pub(crate) fn bytes() -> Result<(), End> {
-    let size = usize::from(little::u16_at(&exactly::<2>()?, 0));
+    let size = usize::from(little::u16_at(&exactly::<2>().ok_or(End::CutShort)?, 0));
     let mut space = [0u8; 1024];
     let Some(bytes) = space.get_mut(..size) else {
         return Err(End::Broken(b"D is too long"));
     };
-    fill(bytes)?;
-    let b = exactly::<3>()?;
+    fill(bytes).ok_or(End::CutShort)?;
+    let b = exactly::<3>().ok_or(End::CutShort)?;
     read(b"D", bytes, Numbers::at(&b))
 }

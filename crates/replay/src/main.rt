@@ -6,11 +6,13 @@ mod images;
 mod stream;
 mod tally;
 
-use crate::stream::{End, accepted, exactly, same};
+use crate::stream::{End, accepted, same};
 use crate::tally::Tally;
+use refusal::Refusal;
+use report::input::exactly;
 use report::sum::of_frames;
 use vsu::unit;
-use vsu::unit::{Moved, Ran, Vsu};
+use vsu::unit::Vsu;
 
 // Where a replay stands.
 #[derive(Clone, Copy)]
@@ -22,50 +24,49 @@ struct Replay {
 impl Replay {
     // A write's address and byte.
     fn write(&mut self) -> Result<(), End> {
-        let b = exactly::<5>()?;
-        let m = unit::write(self.unit, little::u32_at(&b, 0), b[4]);
-        self.unit = m.state;
-        accepted(b"W refused", unit::answer_in(m.said))
+        let b = exactly::<5>().ok_or(End::CutShort)?;
+        accepted(
+            b"W refused",
+            unit::write(&mut self.unit, little::u32_at(&b, 0), b[4]),
+        )?;
+        Ok(())
     }
 
     // A run's cycles, frames and sum.
-    fn run<F: Fn(Vsu, u32, &mut [i16]) -> Ran>(
+    fn run<F: Fn(&mut Vsu, u32, &mut [i16]) -> Result<u32, Refusal>>(
         &mut self,
         engine: F,
         out: &mut [i16],
     ) -> Result<(), End>
         requires { F.IsAlwaysCallable engine }
     {
-        let b = exactly::<12>()?;
+        let b = exactly::<12>().ok_or(End::CutShort)?;
         let n = little::u32_at(&b, 0);
-        let r = engine(self.unit, n, out);
-        self.unit = r.state;
-        accepted(b"R refused", r.answer)?;
-        same(b"R frames", little::u32_at(&b, 4), r.frames)?;
-        same(b"R sum", little::u32_at(&b, 8), of_frames(0, out, r.frames))?;
+        let frames = accepted(b"R refused", engine(&mut self.unit, n, out))?;
+        same(b"R frames", little::u32_at(&b, 4), frames)?;
+        same(b"R sum", little::u32_at(&b, 8), of_frames(0, out, frames))?;
         self.tally.ran(n);
         self.tally.checked();
         Ok(())
     }
 
     // The cycles to advance.
-    fn advance<F: Fn(Vsu, u32) -> Moved>(
+    fn advance<F: Fn(&mut Vsu, u32) -> Result<(), Refusal>>(
         &mut self,
         engine: F,
         what: &'static [u8],
     ) -> Result<(), End>
         requires { F.IsAlwaysCallable engine }
     {
-        let n = little::u32_at(&exactly::<4>()?, 0);
-        let m = engine(self.unit, n);
-        self.unit = m.state;
+        let n = little::u32_at(&exactly::<4>().ok_or(End::CutShort)?, 0);
+        let moved = engine(&mut self.unit, n);
         self.tally.ran(n);
-        accepted(what, m.answer)
+        accepted(what, moved)
     }
 
     // Mute bits.
     fn mute(&mut self) -> Result<(), End> {
-        let [mutes] = exactly::<1>()?;
+        let [mutes] = exactly::<1>().ok_or(End::CutShort)?;
         if mutes > 63 {
             return Err(End::Broken(b"M is above 63"));
         }
@@ -75,7 +76,7 @@ impl Replay {
 
     // A case that begins with an image.
     fn load(&mut self) -> Result<(), End> {
-        let m = image::read_image(&exactly::<420>()?);
+        let m = image::read_image(&exactly::<420>().ok_or(End::CutShort)?);
         self.unit = m.state;
         accepted(b"L refused", m.answer)?;
         self.tally.begin();
@@ -101,7 +102,7 @@ impl Replay {
 
     // Q and J are R and A by the quick engine.
     fn next(&mut self, out: &mut [i16]) -> Result<(), End> {
-        let [letter] = exactly::<1>()?;
+        let [letter] = exactly::<1>().ok_or(End::CutShort)?;
         match letter {
             b'P' => self.power_on(),
             b'L' => self.load()?,

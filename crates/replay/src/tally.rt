@@ -33,10 +33,12 @@ impl Tally {
         print::line(what, &[]);
     }
 
-    fn place_in(&self, what: &[u8], which: &[u8]) {
+    fn place_in(&self, what: &[u8], which: Option<&[u8]>) {
         self.place(what);
-        print::line(b" ", &[]);
-        print::line(which, &[]);
+        if let Some(which) = which {
+            print::line(b" ", &[]);
+            print::line(which, &[]);
+        }
     }
 
     pub(crate) fn tell(&self, end: End) {
@@ -52,14 +54,6 @@ impl Tally {
             }
             End::Differs {
                 what,
-                expected,
-                got,
-            } => {
-                self.place(what);
-                values(expected, got);
-            }
-            End::DiffersIn {
-                what,
                 which,
                 expected,
                 got,
@@ -74,7 +68,7 @@ impl Tally {
                 expected,
                 got,
             } => {
-                self.place_in(what, which);
+                self.place_in(what, Some(which));
                 print::line(b" offset #", &[at as u64]);
                 values(u32::from(expected), u32::from(got));
             }

@@ -6,10 +6,10 @@
 
 mod song;
 
-use deck::{IMAGE_PLACE, MEMORY_SIZE, Player, Turn};
+use deck::{IMAGE_PLACE, MEMORY_SIZE, Player};
 use little::Width;
 use player::{go_to, mute, open, play, seek, set_free};
-use refusal::Answer;
+use refusal::Refusal;
 use report::print;
 use report::sum::of_frames;
 use voice::channel_enum::Kind;
@@ -17,15 +17,10 @@ use vsu::unit;
 use vsu::unit::Vsu;
 
 // No call of the story is refused; one that were would say so.
-fn accepted(a: Answer) {
-    if let Answer::Refused(why) = a {
+fn accepted(a: Result<(), Refusal>) {
+    if let Err(why) = a {
         print::line(b"refused #\n", &[u64::from(refusal::number(why))]);
     }
-}
-
-fn turned(t: Turn) -> Player {
-    accepted(t.answer);
-    t.player
 }
 
 // A record and the sum of the frames that were played to come to it.
@@ -48,11 +43,11 @@ impl Heard {
     // n cycles on, 607,200 at the most: 1,265 frames.
     fn on(&mut self, n: u32, log: &[u8]) {
         let mut out = [0i16; 2530];
-        let r = play(self.player, n, log, &mut out);
-        accepted(r.answer);
-        self.player = r.player;
-        self.frames = self.frames.wrapping_add(r.frames);
-        self.sum = of_frames(self.sum, &out, r.frames);
+        let played = play(&mut self.player, n, log, &mut out);
+        accepted(played.map(|_| ()));
+        let made = played.map_or(0, |p| p.frames);
+        self.frames = self.frames.wrapping_add(made);
+        self.sum = of_frames(self.sum, &out, made);
     }
 
     // Bars 40 and 41.
@@ -100,7 +95,7 @@ fn rebuilt(log: &[u8], before: u32) -> Vsu {
     let mut u = unit::new();
     for address in 0..0x600 {
         if let Some(byte) = song::sent(log, address, before) {
-            u = unit::write(u, u32::from(address), byte).state;
+            let _ = unit::write(&mut u, u32::from(address), byte);
         }
     }
     u
@@ -117,17 +112,21 @@ fn wrong_way(p: Player, log: &[u8], sum: u32) {
 
 // Back to bar 40, by the mark and by the cycle, from a record that has played on.
 fn back(p: Player, cycle: u32, log: &[u8], memory: &[u8], sum: u32) {
-    let gone = turned(go_to(p, 0, log, memory));
+    let mut gone = p;
+    accepted(go_to(&mut gone, 0, log, memory));
     table(gone);
     bars(gone, 2, log).compare(b"gone to the mark", sum);
-    let sought = turned(seek(p, cycle, log));
+    let mut sought = p;
+    accepted(seek(&mut sought, cycle, log));
     table(sought);
     bars(sought, 2, log).compare(b"sought back", sum);
 }
 
 // The log opened, and played to where bar 1 begins.
 fn begun(log: &[u8]) -> Player {
-    let mut h = Heard::from(turned(open(log)));
+    let opened = open(log);
+    accepted(opened.answer);
+    let mut h = Heard::from(opened.player);
     h.on(song::UPBEAT, log);
     h.player
 }
@@ -149,14 +148,17 @@ fn to_bar_40(log: &[u8]) -> Player {
 
 // To the mark with the voice muted: silence; then unmuted there.
 fn silent_there(what: &[u8], p: Player, log: &[u8], memory: &[u8], sum: u32) {
-    let q = turned(go_to(p, 0, log, memory));
+    let mut q = p;
+    accepted(go_to(&mut q, 0, log, memory));
     bars(q, 2, log).compare(what, sum);
-    bars(turned(mute(q, 0)), 2, log).compare(b"unmuted there", sum);
+    accepted(mute(&mut q, 0));
+    bars(q, 2, log).compare(b"unmuted there", sum);
 }
 
 // The mark is slot 0; an image's edition is its first number, and with nothing muted the two editions differ in that alone.
 fn rehearsal(p: Player, log: &[u8], memory: &mut [u8], sum: u32) {
-    let q = turned(mute(p, 16));
+    let mut q = p;
+    accepted(mute(&mut q, 16));
     silent_there(b"muted and gone to the mark", q, log, memory, sum);
     little::put(memory, IMAGE_PLACE, Width::U16, 1);
     silent_there(
@@ -169,7 +171,8 @@ fn rehearsal(p: Player, log: &[u8], memory: &mut [u8], sum: u32) {
 }
 
 fn story(log: &[u8], memory: &mut [u8]) {
-    let p = turned(set_free(to_bar_40(log), log, memory));
+    let mut p = to_bar_40(log);
+    accepted(set_free(&mut p, log, memory));
     table(p);
     let h = bars(p, 2, log);
     h.tell(b"mark set and played on");

@@ -9,7 +9,8 @@ ghost use Rattle.std.specs.Prelude.{◌≤◌, length};
 use deck::Player;
 use lines::words::behind;
 use refusal::Refusal;
-use register_log::Checked;
+use register_log::Log;
+use report::out::Unwritten;
 use report::streams::{STDERR_FILENO, STDIN_FILENO, STDOUT_FILENO};
 use report::terminal::Terminals;
 use report::work::Work;
@@ -23,57 +24,52 @@ const MOST: usize = 1_048_576;
 
 const LINE: usize = 16;
 
-// n cycles, at most a span and not beyond L: so the play is never refused. Whether all its frames are written.
-fn play(p: &mut Player, n: u32, log: &[u8], work: &mut Work) -> bool {
+// n cycles, at most a span and not beyond L: so the play is never refused.
+fn play(p: &mut Player, n: u32, log: &[u8], work: &mut Work) -> Result<(), Unwritten> {
     let mut sides = [0i16; 2048];
     let mut bytes = [0u8; 4096];
-    let r = player::play(*p, n, log, &mut sides);
-    *p = r.player;
-    let size = riff::frames(&mut bytes, &sides, r.frames);
-    let written = out::front(STDOUT_FILENO, &bytes, size);
+    let made = player::play(p, n, log, &mut sides).map_or(0, |played| played.frames);
+    let written = out::put(STDOUT_FILENO, riff::frames(&mut bytes, &sides, made));
     work.tell(p.cycle);
     written
 }
 
 // A record at the log's beginning, with these mutes; those of more than six bits have been refused.
 fn begun(log: &[u8], mutes: u32) -> Player {
-    let t = player::open(log);
-    let p = t.player;
-    let m = player::mute(p, mutes);
-    m.player
+    let mut p = player::open(log).player;
+    let _ = player::mute(&mut p, mutes);
+    p
 }
 
-// Whether all frames are written.
-fn frames(log: &[u8], cycles: u32, mutes: u32, terminals: Terminals) -> bool {
+fn frames(log: &[u8], cycles: u32, mutes: u32, terminals: Terminals) -> Result<(), Unwritten> {
     let mut p = begun(log, mutes);
     let mut work = Work::new(cycles, terminals);
     for _ in 0..cycles / SPAN {
-        if !play(&mut p, SPAN, log, &mut work) {
-            return false;
-        }
+        play(&mut p, SPAN, log, &mut work)?;
     }
     play(&mut p, cycles % SPAN, log, &mut work)
 }
 
-fn sound(log: &[u8], cycles: u32, mutes: u32, terminals: Terminals) -> bool {
+fn sound(log: &[u8], cycles: u32, mutes: u32, terminals: Terminals) -> Result<(), Unwritten> {
     let mut header = [0u8; 44];
     riff::header(&mut header, cycles);
-    io::write_all(STDOUT_FILENO, &header) && frames(log, cycles, mutes, terminals)
+    out::put(STDOUT_FILENO, &header)?;
+    frames(log, cycles, mutes, terminals)
 }
 
 fn refused(why: Refusal) {
-    out::refused(STDERR_FILENO, why);
+    let _ = out::refused(STDERR_FILENO, why);
 }
 
 fn convert(log: &[u8], mutes: u32, terminals: Terminals) {
     let c = register_log::check_log(log);
     match c {
-        Checked::Log { count: _, cycles } => {
-            if !sound(log, cycles, mutes, terminals) {
+        Ok(Log { cycles, .. }) => {
+            if sound(log, cycles, mutes, terminals).is_err() {
                 print::unwritten(b"wav", terminals);
             }
         }
-        Checked::Refused(why) => refused(why),
+        Err(why) => refused(why),
     }
 }
 
