@@ -208,11 +208,12 @@ pub fn in_range(u: Vsu) -> bool
 pub fn write(u: &mut Vsu, address: u32, value: u8) -> Result<Said, Refusal>
     ensures { (record { state = u.new; said = result } ≡ write_of address value u.old) × Tells (said_answer result) (unit_answer u.old) }
 {
-    if !in_range(*u) {
+    let old = *u;
+    if !in_range(old) {
         return Err(Refusal::State);
     }
-    let said = says(*u, address);
-    *u = set_u8(*u, address, value);
+    let said = says(old, address);
+    *u = set_u8(old, address, value);
     Ok(said)
 }
 
@@ -223,18 +224,19 @@ pub fn frames_due(u: Vsu, n: u32) -> u64
     (u64::from(u.output) + u64::from(n)) / u64::from(SOUND_SAMPLE_RATE_CYCLE_COUNT)
 }
 
-// A way to make cycles of the six voices, for callers that have checked the range.
+// A way to make cycles of the six voices. It takes any six; what it answers is said of voices in range, and its callers check that first.
 pub trait Engine {
     fn cycles(voices: [Voice; 6], modulation: &[i8; 32], n: u32) -> [Voice; 6]
-        requires { voices_in_range voices ≡ true }
-        ensures { result ≡ voices_after_all modulation.now n voices };
+        ensures { voices_in_range voices ≡ true → result ≡ voices_after_all modulation.now n voices };
 }
 
 // Cycle by cycle, as the Rust.
 pub struct ByCycle;
 
 impl Engine for ByCycle {
-    fn cycles(voices: [Voice; 6], modulation: &[i8; 32], n: u32) -> [Voice; 6] {
+    fn cycles(voices: [Voice; 6], modulation: &[i8; 32], n: u32) -> [Voice; 6]
+        ensures { result ≡ voices_after_all modulation.now n voices }
+    {
         six::unit::cycles(voices, modulation, n)
     }
 }
