@@ -61,7 +61,7 @@ fn standing(p: &Player, log: &[u8]) -> Result<Log, Refusal>
 {
     let l = register_log::check_log(log)?;
     if !unit::in_range(p.unit) {
-        return Err(Refusal::State);
+        return Err(Refusal::State); // 1 before 13
     }
     if !has_place(log, l, p.cycle, p.applied) {
         return Err(Refusal::Place);
@@ -79,7 +79,7 @@ pub fn play(p: &mut Player, n: u32, log: &[u8], out: &mut [i16]) -> Result<Playe
     let l = standing(p, log)?;
     let target = (p.cycle as u64) + (n as u64);
     if target > l.cycles as u64 {
-        return Err(Refusal::BeyondEnd);
+        return Err(Refusal::BeyondEnd); // 12 before 2
     }
     let frames = unit::frames_due(p.unit, n);
     if frames > (out.len() / 2) as u64 {
@@ -154,7 +154,7 @@ fn set_at(
 {
     standing(p, log)?;
     if memory.len() < MEMORY_SIZE {
-        return Err(Refusal::Room);
+        return Err(Refusal::Room); // 2 before 14 and 16
     }
     if slot > 15 {
         return Err(above);
@@ -192,7 +192,7 @@ pub fn clear_mark(p: &mut Player, slot: u32) -> Result<(), Refusal>
         × Tells result (clear_answer p.old slot) }
 {
     if !unit::in_range(p.unit) {
-        return Err(Refusal::State);
+        return Err(Refusal::State); // 1 before 14
     }
     if slot > 15 {
         return Err(Refusal::MarkNumber);
@@ -215,7 +215,7 @@ pub fn go_to(p: &mut Player, slot: u32, log: &[u8], memory: &[u8]) -> Result<(),
         return Err(Refusal::Room);
     }
     if slot > 15 {
-        return Err(Refusal::MarkNumber);
+        return Err(Refusal::MarkNumber); // 14 before 15
     }
     if !marks::is_set(p.marks, slot) {
         return Err(Refusal::MarkUnset);

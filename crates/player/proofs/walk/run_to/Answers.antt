@@ -19,7 +19,7 @@ loop-cycle-smaller-then-due-cycle c = omega (arith, laws.log-left c.args.log.now
 
 pub loop-cycle-preserved-then-due-cycle : goal.loop-cycle-preserved-then-due-cycle
 loop-cycle-preserved-then-due-cycle c =
-    laws.plays-wrote c.args.log.now c.args.count c.args.p.now c.args.target c.loop-cycle.invariant (laws.log-entry c.args.log.now c.args.count c.args.p.now c.args.target c.requires.0 (laws.skips c.args.log.now c.args.count c.args.p.now c.args.target c.loop-cycle.invariant) c.next_due-due.ensures c.loop-cycle-test.true c.if-due-cycle.true c.write_at-w.ensures (search rules)) c.says.ensures c.count_said.ensures c.written-unit.ensures
+    laws.plays-wrote c.args.log.now c.args.count c.args.p.now c.args.target c.loop-cycle.invariant (laws.log-entry c.args.log.now c.args.count c.args.p.now c.args.target c.requires.0 (laws.skips c.args.log.now c.args.count c.args.p.now c.args.target c.loop-cycle.invariant) c.next_due-due.ensures c.loop-cycle-test.true c.if-due-cycle.true c.write_at-w.ensures (search rules)) c.says.ensures c.count_said.ensures c.written.ensures
 
 pub overflow_mul-at : goal.overflow_mul-at
 overflow_mul-at c =

@@ -14,7 +14,7 @@ loop-cycle-smaller-then-due-cycle c = omega (arith, laws.log-left c.args.log.now
 
 pub loop-cycle-preserved-then-due-cycle : goal.loop-cycle-preserved-then-due-cycle
 loop-cycle-preserved-then-due-cycle c =
-    laws.skip-wrote c.args.log.now c.args.count c.args.p.now c.args.target c.loop-cycle.invariant (laws.log-entry c.args.log.now c.args.count c.args.p.now c.args.target c.requires c.loop-cycle.invariant c.next_due-due.ensures c.loop-cycle-test.true c.if-due-cycle.true c.write_at-w.ensures (search rules)) c.written-unit.ensures
+    laws.skip-wrote c.args.log.now c.args.count c.args.p.now c.args.target c.loop-cycle.invariant (laws.log-entry c.args.log.now c.args.count c.args.p.now c.args.target c.requires c.loop-cycle.invariant c.next_due-due.ensures c.loop-cycle-test.true c.if-due-cycle.true c.write_at-w.ensures (search rules)) c.written.ensures
 
 pub loop-cycle-preserved : goal.loop-cycle-preserved
 loop-cycle-preserved c =
