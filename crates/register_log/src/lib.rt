@@ -58,6 +58,8 @@ fn due_in(log: &[u8], at: usize) -> u32
     u32::from_le_bytes([log[at], log[at + 1], log[at + 2], log[at + 3]])
 }
 
+// Never inlined: compiled into `entry` the pass takes half as much again.
+#[inline(never)]
 fn check_entries(log: &[u8], count: u32, cycles: u32) -> Result<Log, Refusal>
     requires { (count ≤ most_entries) × (length log.now ≡ entry_place edition1 count) }
     ensures { result ≡ checked_by (entries_answer edition1 log.now cycles count 0) count cycles }
