@@ -1,7 +1,7 @@
 // "One table of image fields gives each field's offset, width and largest value; tap and output have their own rules besides."
 #![tactic(auto)]
 
-ghost use Rattle.std.specs.Prelude.{◌≡◌};
+ghost use Rattle.std.specs.Prelude.{◌≡◌, ◌<◌, ◌%◌, ◌/◌};
 ghost use Rattle.table.specs.Table.{cells_of, own_of, parts_of, part_of, known_edition, broken_by, field_faulty};
 
 use little::Width;
@@ -266,6 +266,18 @@ fn part_of(edition: Known, field: u16) -> Part
     p
 }
 
+// Which of a part's cells its field n is, and how many times the part comes before it. Most fields, the samples and the entries, are in
+// parts of one cell: divided like the others, they cost `exchange` a sixth more on a pair that may not be exchanged.
+fn cell_of(n: usize, cells: usize) -> (usize, usize)
+    requires { 0 < cells }
+    ensures { (result.0 ≡ n % cells) × (result.1 ≡ n / cells) }
+{
+    if cells == 1 {
+        return (0, n);
+    }
+    (n % cells, n / cells)
+}
+
 // A field by its number, counted in rising order of offsets.
 pub fn row_at(edition: Known, field: u16) -> Row
     ensures { result ≡ (known_edition edition).rows field }
@@ -273,10 +285,10 @@ pub fn row_at(edition: Known, field: u16) -> Row
     let Part(first, offset, size, block) = part_of(edition, field);
     let cells = cells_of(block);
     let n = (field - first) as usize;
-    let i = n % cells.len();
+    let (i, before) = cell_of(n, cells.len());
     let Cell(inside, width, most) = cells[i];
     Row {
-        offset: offset + size * (n / cells.len()) as u32 + inside,
+        offset: offset + size * before as u32 + inside,
         width,
         most,
         own: own_of(block, i),
