@@ -7,7 +7,7 @@ mod console;
 mod failure;
 mod output;
 
-ghost use Rattle.std.specs.Prelude.{◌≤◌, IfSome, length};
+ghost use Rattle.std.specs.Prelude.{◌≤◌, IfOk, IfSome, length};
 
 use crate::output::Line;
 use refusal::Refusal;
@@ -23,7 +23,9 @@ use std::str;
 const MOST: usize = 1_048_576;
 
 // The bytes that came. A read may bring a part only, as of a pipe.
-fn read_all(mut file: File, space: &mut [u8]) -> Result<&[u8]> {
+fn read_all(mut file: File, space: &mut [u8]) -> Result<&[u8]>
+    ensures { IfOk result (λ t. length t.now ≤ length space.old) }
+{
     let mut size = 0;
     while size < space.len() {
         let more = file.read(&mut space[size..])?;
@@ -62,11 +64,9 @@ fn drive(from: Stdin, to: Stdout, log: &[u8]) {
 }
 
 // A name is text here. The file is closed behind it.
-fn read_file<'a>(
-    rt: &impl Files<File = File>,
-    path: &[u8],
-    space: &'a mut [u8],
-) -> Result<&'a [u8]> {
+fn read_file<'a>(rt: &impl Files<File = File>, path: &[u8], space: &'a mut [u8]) -> Result<&'a [u8]>
+    ensures { IfOk result (λ t. length t.now ≤ length space.old) }
+{
     let Ok(name) = str::from_utf8(path) else {
         return Err(Error::from(ErrorKind::InvalidFilename));
     };
