@@ -258,10 +258,10 @@ module _ (s m : ℕ) (h : s ≤ 15) (g : m < 65536) where
       ∙ and_block s (m / 2 ^ s) ((2 ^ (15 - s) - 1) * 2) (m % 2 ^ s) (2 ^ s - 1) (mod-lt m (pow_pos s)) (ones_lt s)
       ∙ ap₂ (λ (x y : ℕ). x * 2 ^ s + y) and-even (and_mask (m % 2 ^ s) s ∙ mod-eq_of_lt (mod-lt m (pow_pos s)))
 
-  or-with : bit_or m (2 ^ s) ≡ with_mark s m
+  pub or-with : bit_or m (2 ^ s) ≡ with_mark s m
   or-with = or_put s m ∙ with-put s m h
 
-  and-without : bit_and m (65535 - 2 ^ s) ≡ without_mark s m
+  pub and-without : bit_and m (65535 - 2 ^ s) ≡ without_mark s m
   and-without = and-put ∙ without-put s m h
 
   with_in : with_mark s m < 65536
@@ -279,11 +279,11 @@ without-past s m h = rw (lt-leb s 15 h)
 
 -- one mark asked
 
-past-unset : (s m : ℕ) → 15 < s → false ≡ is_set s m
+pub past-unset : (s m : ℕ) → 15 < s → false ≡ is_set s m
 unfolding is_set
 past-unset s m h = rw (lt-leb s 15 h)
 
-set-asked : (s m : ℕ) → s ≤ 15 → eqb (bit_and (m / 2 ^ s) 1) 1 ≡ is_set s m
+pub set-asked : (s m : ℕ) → s ≤ 15 → eqb (bit_and (m / 2 ^ s) 1) 1 ≡ is_set s m
 unfolding is_set
 set-asked s m h = rw (le-leb s 15 h, and_mask (m / 2 ^ s) 1)
 

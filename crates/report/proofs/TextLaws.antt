@@ -122,7 +122,7 @@ hex-is b r h f =
     let e : b / 16 % 16 ≡ b / 16 = omega arith in
     rw (two b r h f) (ap (λ (d : ℕ). hex_digit_ascii d ∷ hex_digit_ascii (b % 16) ∷ []) e)
 
-hex-split : (xs ys : List ℕ) → hex_of (xs ++ ys) ≡ hex_of xs ++ hex_of ys
+pub hex-split : (xs ys : List ℕ) → hex_of (xs ++ ys) ≡ hex_of xs ++ hex_of ys
 unfolding hex_of
 hex-split [] ys = refl
 hex-split (x ∷ xs) ys = ap (λ (l : List ℕ). hex_digit_ascii (x / 16) ∷ hex_digit_ascii (x % 16) ∷ l) (hex-split xs ys)

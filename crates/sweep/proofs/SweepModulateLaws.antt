@@ -24,7 +24,7 @@ use Rattle.sweep.specs.declared.sweep_modulate.SweepModulate.{SweepModulate}
 -- An entry is handed to `bits::addend` through its bits.
 
 module _ (e : ℤ) {up : ℕ} (f : mag e < 128) (q : up ≡ addend (to_z w8 (of_z w8 e))) where
-  addend-is : up ≡ addend e
+  pub addend-is : up ≡ addend e
   addend-is = q ∙ ap addend (to_z-of_z {w = w8} (record { sfits = f }))
 
   pub addend_small : up < 2176
